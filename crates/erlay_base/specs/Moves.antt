@@ -1,0 +1,16 @@
+-- What moves from a source and to a sink, where bytes are told.
+use Rattle.std.specs.Prelude.{ℕ, ◌<◌, List, length, take, Result, IfOk}
+use Rattle.std.specs.Io.KnownBytes.{Appends, Consumes}
+use Rattle.std.specs.declared.option.Option.{Option}
+
+-- a write takes at least one byte of a piece that isn't empty
+abbrev pub TakesSome : {E : Type 0} → Result ℕ E → List ℕ → Type 0
+TakesSome result piece = IfOk result (λ n. 0 < length piece → 0 < n)
+
+-- bytes were taken from the front, and P holds of their number
+abbrev pub TakesCount : Option (List ℕ) → Option (List ℕ) → (ℕ → Type 0) → Type 0
+TakesCount old new P = (bs : List ℕ) × Consumes old new bs × P (length bs)
+
+-- a proper front part of the bytes was written
+abbrev pub WritesPart : Option (List ℕ) → Option (List ℕ) → List ℕ → Type 0
+WritesPart old new bytes = (n : ℕ) × (n < length bytes) × Appends old new (take n bytes)
