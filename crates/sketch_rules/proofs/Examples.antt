@@ -1,0 +1,51 @@
+-- Worked examples, computed from the definitions alone.
+use Rattle.std.proofs.Common.{◌≡◌, [], ◌∷◌, refl}
+use Rattle.hex.specs.Hex.{encode_with}
+use Rattle.std.specs.Prelude.{codes}
+use Rattle.sketch_rules.specs.Ops.{power, power_sum, sums_from}
+use Rattle.sketch_rules.specs.Elements.{carryless_below, remainder, product}
+use Rattle.sketch_rules.specs.Sketches.{digits_of, merged, sketch_of}
+use Rattle.sketch_rules.specs.Sets.{ascending, difference, placed}
+
+-- x ^ 32 is the low terms of the modulus
+turned : product 32 0x80000000 2 ≡ 0x8D
+unfolding product remainder carryless_below
+turned = refl
+
+-- the square and the cube of x ^ 31
+square : product 32 0x80000000 0x80000000 ≡ 0x40001037
+unfolding product remainder carryless_below
+square = refl
+
+cube : product 32 0x40001037 0x80000000 ≡ 0x20046D72
+unfolding product remainder carryless_below
+cube = refl
+
+-- the set of 1 alone, at capacity 3
+one : digits_of (sketch_of (1 ∷ []) 3) ≡ codes "010000000100000001000000"
+unfolding product remainder carryless_below power power_sum sums_from encode_with
+one = refl
+
+-- 1, 2 and 3, at capacity 4
+three : digits_of (sketch_of (1 ∷ 2 ∷ 3 ∷ []) 4) ≡ codes "0000000006000000120000007e000000"
+unfolding product remainder carryless_below power power_sum sums_from encode_with
+three = refl
+
+-- x ^ 31, at capacity 2
+highest : digits_of (sketch_of (0x80000000 ∷ []) 2) ≡ codes "00000080726d0420"
+unfolding product remainder carryless_below power power_sum sums_from encode_with
+highest = refl
+
+-- the empty set, at capacity 2
+empty : digits_of (sketch_of [] 2) ≡ codes "0000000000000000"
+unfolding product remainder carryless_below power power_sum sums_from encode_with
+empty = refl
+
+-- the difference of two sets, and the sum of their sketches
+differ : difference (7 ∷ 1 ∷ 3 ∷ []) (3 ∷ 2 ∷ 1 ∷ []) ≡ 2 ∷ 7 ∷ []
+unfolding placed ascending
+differ = refl
+
+summed : merged (sketch_of (1 ∷ 2 ∷ []) 2) (sketch_of (2 ∷ []) 2) ≡ sketch_of (1 ∷ []) 2
+unfolding product remainder carryless_below power power_sum sums_from merged
+summed = refl

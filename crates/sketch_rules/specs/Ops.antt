@@ -1,0 +1,44 @@
+-- Powers, power sums and sketches over any type with a sum and a product.
+use Rattle.std.specs.Prelude.{◌≡◌, ℕ, zero, suc, ◌+◌, ◌*◌, List, [], ◌∷◌}
+
+pub record Ops (A : Type 0) : Type 0 where
+  pub zero : A
+  pub one : A
+  pub plus : A → A → A
+  pub times : A → A → A
+
+-- a commutative ring in which each element is its own negative
+pub record IsRing {A : Type 0} (ops : Ops A) : Type 0 where
+  pub plus_comm : (a b : A) → ops.plus a b ≡ ops.plus b a
+  pub plus_assoc : (a b c : A) → ops.plus (ops.plus a b) c ≡ ops.plus a (ops.plus b c)
+  pub plus_zero : (a : A) → ops.plus a ops.zero ≡ a
+  pub plus_self : (a : A) → ops.plus a a ≡ ops.zero
+  pub times_comm : (a b : A) → ops.times a b ≡ ops.times b a
+  pub times_assoc : (a b c : A) → ops.times (ops.times a b) c ≡ ops.times a (ops.times b c)
+  pub times_one : (a : A) → ops.times a ops.one ≡ a
+  pub distributes : (a b c : A) → ops.times a (ops.plus b c) ≡ ops.plus (ops.times a b) (ops.times a c)
+
+-- e to the power k
+unfoldable pub power : {A : Type 0} → Ops A → A → ℕ → A
+power ops e zero = ops.one
+power ops e (suc k) = ops.times (power ops e k) e
+
+-- s_k: the sum of the k-th powers of the elements
+unfoldable pub power_sum : {A : Type 0} → Ops A → ℕ → List A → A
+power_sum ops k [] = ops.zero
+power_sum ops k (e ∷ es) = ops.plus (power ops e k) (power_sum ops k es)
+
+-- the n sums s_(2i+1), s_(2i+3), .. of odd powers, from place i on
+unfoldable pub sums_from : {A : Type 0} → Ops A → List A → ℕ → ℕ → List A
+sums_from ops es i zero = []
+sums_from ops es i (suc n) = power_sum ops (2 * i + 1) es ∷ sums_from ops es (i + 1) n
+
+-- the sketch of capacity c: s_1, s_3, .., s_(2c-1). PinSketch, in Dodis, Ostrovsky, Reyzin and Smith, Fuzzy
+-- Extractors, section 6.3
+abbrev pub sketch_by : {A : Type 0} → Ops A → List A → ℕ → List A
+sketch_by ops es c = sums_from ops es 0 c
+
+-- e ^ (2i + 1) added to each item at place i, where the first of them stands at place i
+unfoldable pub with_odd_powers : {A : Type 0} → Ops A → A → ℕ → List A → List A
+with_odd_powers ops e i [] = []
+with_odd_powers ops e i (a ∷ rest) = ops.plus a (power ops e (2 * i + 1)) ∷ with_odd_powers ops e (i + 1) rest

@@ -1,0 +1,2 @@
+//! The definitions of elements, sums and sketches, in `specs/`. There is no code here.
+#![tactic(auto)]
