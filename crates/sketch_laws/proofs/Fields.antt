@@ -1,0 +1,259 @@
+-- A width that passes the tests is a field.
+use Rattle.std.proofs.Common.{◌≡◌, ◌≢◌, ◌⊎◌, inl, inr, ℕ, zero, suc, ◌+◌, ◌-◌, ◌*◌, ◌^◌, ◌<◌, ◌≤◌, ◌==◌, ◌&&◌, Bool, true, false, List, [], ◌∷◌, refl, sym, ap, subst, ◌∙◌, arith}
+use Rattle.std.specs.Int.Bits.{bit_xor, xor_self, xor_zero_l}
+use Rattle.std.specs.Int.{bit_at}
+use Rattle.std.proofs.Math.Nat.{zero-mul, le_refl}
+use Rattle.std.proofs.Math.Pow.{pow-lt}
+use Rattle.std.proofs.lemmas.Nat.Bits.{bit_at_xor, bit_at-zero}
+use Rattle.std.proofs.lemmas.Bool.{cases_eq}
+use Rattle.std.proofs.lemmas.Bool.Decides.{Decides-eqb}
+use Rattle.sketch_rules.specs.Ops.{Ops, IsRing}
+use Rattle.sketch_rules.specs.Elements.{product, numbers}
+use Rattle.sketch_rules.specs.Fields.{conjugate, trace_of, IsField, IsToldApart}
+use Rattle.sketch_rules.specs.Numbered.{IsNumbered}
+use Rattle.sketch_laws.specs.Certified.{selected, square_and_own, solves, Certified}
+use Rattle.sketch_laws.proofs.Xors.{bit_cases, xor_swap}
+use Rattle.sketch_laws.proofs.Carryless.{xor_digits}
+use Rattle.sketch_laws.proofs.RingFacts.{times_zero, zero_times, distributes_left, same_of_sum, square_plus, plus_swap}
+use Rattle.sketch_laws.proofs.Conjugates.{conjugate-plus, conjugate-times, conjugate-one, conjugate-zero}
+use Rattle.sketch_laws.proofs.Traces.{trace_of-plus, trace_of-zero, trace_of-own}
+use Rattle.sketch_laws.proofs.Inverses.{norm_of, inverse-is, zero_factor, own_of_no_zero_divisor}
+use Rattle.sketch_laws.proofs.Numbers.{width_positive, same_or_not}
+use Rattle.sketch_laws.proofs.PowersOfX.{product-x, by_powers_of_x, conjugate-bits, trace_of-bits}
+
+-- ---- the table
+
+-- no place selects nothing
+selected-zero : (i : ℕ) (table : List ℕ) → selected i table 0 ≡ 0
+unfolding selected
+selected-zero i [] = refl
+selected-zero i (t ∷ table) = rw (selected-zero (i + 1) table, bit_at-zero i, zero-mul) (xor_zero_l 0)
+
+-- what the table selects keeps exclusive ors
+selected-xor : (i : ℕ) (table : List ℕ) (u v : ℕ) → selected i table (bit_xor u v) ≡ bit_xor (selected i table u) (selected i table v)
+unfolding selected
+selected-xor i [] u v = sym (xor_zero_l 0)
+selected-xor i (t ∷ table) u v =
+    ap (λ z. bit_xor (z * t) (selected (i + 1) table (bit_xor u v))) (bit_at_xor u v i)
+    ∙ ap (λ z. bit_xor z (selected (i + 1) table (bit_xor u v))) (xor_digits (bit_at u i) (bit_at v i) t (bit_cases u i) (bit_cases v i))
+    ∙ ap (bit_xor (bit_xor (bit_at u i * t) (bit_at v i * t))) (selected-xor (i + 1) table u v)
+    ∙ xor_swap (bit_at u i * t) (bit_at v i * t) (selected (i + 1) table u) (selected (i + 1) table v)
+
+-- a test of two parts
+both : (b c : Bool) → (b && c) ≡ true → (b ≡ true) × (c ≡ true)
+both true c e = (refl, e)
+both false c e = cc
+
+-- the tests of the table, one by one
+solves-at : (width n j : ℕ) (table : List ℕ) → solves width table n ≡ true → j < n → selected 0 table (square_and_own width (2 ^ suc j)) ≡ 2 ^ suc j
+unfolding solves
+solves-at width zero j table solved lt = absurd (omega arith)
+solves-at width (suc n) j table solved lt =
+    by (both (selected 0 table (square_and_own width (2 ^ suc n)) == 2 ^ suc n) (solves width table n) solved) (cases_eq j n) (solves-at width n j table)
+  where
+    by : ((selected 0 table (square_and_own width (2 ^ suc n)) == 2 ^ suc n) ≡ true) × (solves width table n ≡ true) → (j ≡ n) ⊎ (j ≡ n → ⊥)
+        → (solves width table n ≡ true → j < n → selected 0 table (square_and_own width (2 ^ suc j)) ≡ 2 ^ suc j)
+        → selected 0 table (square_and_own width (2 ^ suc j)) ≡ 2 ^ suc j
+    by tests (inl same) before =
+        subst (λ z. selected 0 table (square_and_own width (2 ^ suc z)) ≡ 2 ^ suc z) (sym same)
+        ((Decides-eqb (selected 0 table (square_and_own width (2 ^ suc n))) (2 ^ suc n)).0 tests.0)
+    by tests (inr other) before = before tests.1 (omega arith)
+
+-- the exclusive or of bits is a bit
+xor_bits : (a b : ℕ) → (a ≡ 0) ⊎ (a ≡ 1) → (b ≡ 0) ⊎ (b ≡ 1) → (bit_xor a b ≡ 0) ⊎ (bit_xor a b ≡ 1)
+xor_bits a b (inl p) (inl q) = inl (rw (p, q) refl)
+xor_bits a b (inl p) (inr q) = inr (rw (p, q) refl)
+xor_bits a b (inr p) (inl q) = inr (rw (p, q) refl)
+xor_bits a b (inr p) (inr q) = inl (rw (p, q) refl)
+
+module _ {A : Type 0} (ops : Ops A) (bits_of : A → ℕ) (width : ℕ) (ring : IsRing ops) (numbered : IsNumbered ops bits_of width) where
+  -- ---- from the laws of a field
+
+  -- a ^ (2 ^ width - 2) is the inverse of a
+  pub inverse_by_norm : IsField ops width → (a : A) → a ≢ ops.zero → ops.times a (norm_of ops (width - 1) (ops.times a a)) ≡ ops.one
+  inverse_by_norm field a nonzero =
+      let positive : 0 < width = width_positive ops bits_of width numbered in
+      let next : width ≡ suc (width - 1) = omega arith in
+      inverse-is ops ring (own_of_no_zero_divisor ops ring field.no_zero_divisor) (width - 1) a (subst (λ z. conjugate ops z a ≡ a) next (field.returns a)) nonzero
+
+  -- ---- from the tests
+
+  module _ (certified : Certified width) where
+    -- a power of x, squared width times, is itself
+    power_returns : (j : ℕ) → j < width → (e : A) → bits_of e ≡ 2 ^ j → conjugate ops width e ≡ e
+    power_returns zero lt e is =
+        let first : ops.one ≡ e = numbered.same ops.one e (numbered.one_bits ∙ sym is) in
+        subst (λ z. conjugate ops width z ≡ z) first (conjugate-one ops ring width)
+    power_returns (suc j) lt e is =
+        by (numbered.filled 2 (pow-lt {i = 1} {j = width} (omega arith))) (numbered.filled (2 ^ j) (pow-lt (omega arith))) (power_returns j (omega arith))
+      where
+        by : (x : A) × (bits_of x ≡ 2) → (p : A) × (bits_of p ≡ 2 ^ j) → ((e : A) → bits_of e ≡ 2 ^ j → conjugate ops width e ≡ e) → conjugate ops width e ≡ e
+        by x p before = subst (λ z. conjugate ops width z ≡ z) split (conjugate-times ops ring width p.0 x.0 ∙ ap (λ z. ops.times z (conjugate ops width x.0)) (before p.0 p.1) ∙ ap (ops.times p.0) x_returns)
+          where
+            split : ops.times p.0 x.0 ≡ e
+            split =
+                numbered.same (ops.times p.0 x.0) e
+                (numbered.times_bits p.0 x.0 ∙ ap (λ z. product width z (bits_of x.0)) p.1 ∙ ap (product width (2 ^ j)) x.1 ∙ product-x width j certified.is_width lt ∙ sym is)
+
+            x_returns : conjugate ops width x.0 ≡ x.0
+            x_returns =
+                numbered.same (conjugate ops width x.0) x.0
+                (conjugate-bits ops bits_of width numbered width x.0 ∙ ap (conjugate (numbers width) width) x.1 ∙ certified.x_returns ∙ sym x.1)
+
+    -- so each element is
+    pub all_return : (a : A) → conjugate ops width a ≡ a
+    all_return =
+        by_powers_of_x ops bits_of width numbered (λ a. conjugate ops width a ≡ a) (conjugate-zero ops ring width)
+        (λ a b p q. conjugate-plus ops ring width a b ∙ ap (λ z. ops.plus z (conjugate ops width b)) p ∙ ap (ops.plus a) q)
+        power_returns
+
+    -- what is left of a by the table: the lowest bit
+    abbrev rest_of : A → ℕ
+    rest_of a = bit_xor (selected 0 certified.table (bits_of (ops.plus (ops.times a a) a))) (bits_of a)
+
+    -- it keeps sums
+    rest_of-plus : (a b : A) → rest_of (ops.plus a b) ≡ bit_xor (rest_of a) (rest_of b)
+    rest_of-plus a b =
+        ap (bit_xor (selected 0 certified.table (bits_of (ops.plus (ops.times (ops.plus a b) (ops.plus a b)) (ops.plus a b))))) (numbered.plus_bits a b)
+        ∙ ap (λ z. bit_xor z (bit_xor (bits_of a) (bits_of b))) selects
+        ∙ xor_swap (selected 0 certified.table (bits_of (ops.plus (ops.times a a) a))) (selected 0 certified.table (bits_of (ops.plus (ops.times b b) b))) (bits_of a) (bits_of b)
+      where
+        sums : ops.plus (ops.times (ops.plus a b) (ops.plus a b)) (ops.plus a b) ≡ ops.plus (ops.plus (ops.times a a) a) (ops.plus (ops.times b b) b)
+        sums = ap (λ z. ops.plus z (ops.plus a b)) (square_plus ops ring a b) ∙ plus_swap ops ring (ops.times a a) (ops.times b b) a b
+
+        selects : selected 0 certified.table (bits_of (ops.plus (ops.times (ops.plus a b) (ops.plus a b)) (ops.plus a b)))
+            ≡ bit_xor (selected 0 certified.table (bits_of (ops.plus (ops.times a a) a))) (selected 0 certified.table (bits_of (ops.plus (ops.times b b) b)))
+        selects =
+            ap (λ z. selected 0 certified.table (bits_of z)) sums
+            ∙ ap (selected 0 certified.table) (numbered.plus_bits (ops.plus (ops.times a a) a) (ops.plus (ops.times b b) b))
+            ∙ selected-xor 0 certified.table (bits_of (ops.plus (ops.times a a) a)) (bits_of (ops.plus (ops.times b b) b))
+
+    -- an element that is its own square selects nothing
+    own_rest : (e : A) → ops.times e e ≡ e → rest_of e ≡ bits_of e
+    own_rest e own =
+        ap (λ z. bit_xor (selected 0 certified.table (bits_of z)) (bits_of e)) (ap (λ z. ops.plus z e) own ∙ ring.plus_self e)
+        ∙ ap (λ z. bit_xor (selected 0 certified.table z) (bits_of e)) numbered.zero_bits
+        ∙ ap (λ z. bit_xor z (bits_of e)) (selected-zero 0 certified.table)
+        ∙ xor_zero_l (bits_of e)
+
+    -- of a power of x it is 0 or 1
+    power_rest : (j : ℕ) → j < width → (e : A) → bits_of e ≡ 2 ^ j → (rest_of e ≡ 0) ⊎ (rest_of e ≡ 1)
+    power_rest zero lt e is = inr (own_rest e own ∙ is)
+      where
+        own : ops.times e e ≡ e
+        own =
+            let first : e ≡ ops.one = numbered.same e ops.one (is ∙ sym numbered.one_bits) in
+            ap (ops.times e) first ∙ ring.times_one e
+    power_rest (suc j) lt e is =
+        inl (ap (λ z. bit_xor (selected 0 certified.table z) (bits_of e)) (numbered.plus_bits (ops.times e e) e ∙ ap (λ z. bit_xor z (bits_of e)) (numbered.times_bits e e))
+        ∙ ap (λ z. bit_xor (selected 0 certified.table (square_and_own width z)) z) is
+        ∙ ap (λ z. bit_xor z (2 ^ suc j)) (solves-at width (width - 1) j certified.table certified.solved (omega arith))
+        ∙ xor_self (2 ^ suc j))
+
+    -- and so it is of each element
+    rest_is_bit : (a : A) → (rest_of a ≡ 0) ⊎ (rest_of a ≡ 1)
+    rest_is_bit =
+        by_powers_of_x ops bits_of width numbered (λ a. (rest_of a ≡ 0) ⊎ (rest_of a ≡ 1)) (inl (own_rest ops.zero (times_zero ops ring ops.zero) ∙ numbered.zero_bits))
+        (λ a b p q. subst (λ z. (z ≡ 0) ⊎ (z ≡ 1)) (sym (rest_of-plus a b)) (xor_bits (rest_of a) (rest_of b) p q))
+        power_rest
+
+    -- only 0 and 1 are their own squares
+    pub own_is_bit : (e : A) → ops.times e e ≡ e → (e ≡ ops.zero) ⊎ (e ≡ ops.one)
+    own_is_bit e own = by (rest_is_bit e)
+      where
+        by : (rest_of e ≡ 0) ⊎ (rest_of e ≡ 1) → (e ≡ ops.zero) ⊎ (e ≡ ops.one)
+        by (inl none) = inl (numbered.same e ops.zero (sym (own_rest e own) ∙ none ∙ sym numbered.zero_bits))
+        by (inr one) = inr (numbered.same e ops.one (sym (own_rest e own) ∙ one ∙ sym numbered.one_bits))
+
+    -- each element but 0 has an inverse
+    pub all_invertible : (a : A) → a ≢ ops.zero → (b : A) × (ops.times a b ≡ ops.one)
+    all_invertible a nonzero =
+        let positive : 0 < width = width_positive ops bits_of width numbered in
+        let next : width ≡ suc (width - 1) = omega arith in
+        (norm_of ops (width - 1) (ops.times a a), inverse-is ops ring own_is_bit (width - 1) a (subst (λ z. conjugate ops z a ≡ a) next (all_return a)) nonzero)
+
+    -- a product is 0 only where a factor is
+    zero_product : (a b : A) → ops.times a b ≡ ops.zero → (a ≡ ops.zero) ⊎ (b ≡ ops.zero)
+    zero_product a b none = by (same_or_not ops bits_of width numbered a ops.zero)
+      where
+        by : (a ≡ ops.zero) ⊎ (a ≡ ops.zero → ⊥) → (a ≡ ops.zero) ⊎ (b ≡ ops.zero)
+        by (inl is) = inl is
+        by (inr nonzero) = let inverse : (c : A) × (ops.times a c ≡ ops.one) = all_invertible a nonzero in inr (zero_factor ops ring a inverse.0 b inverse.1 none)
+
+    -- 1 and 0 have different bits
+    one_is_not_zero : ops.one ≢ ops.zero
+    one_is_not_zero same = let bits : bits_of ops.one ≡ bits_of ops.zero = ap bits_of same in omega (arith, numbered.one_bits, numbered.zero_bits)
+
+    -- the field
+    pub field_of_certified : IsField ops width
+    field_of_certified = record {
+      apart = one_is_not_zero;
+      returns = all_return;
+      no_zero_divisor = zero_product;
+      invertible = all_invertible;
+      trace_is_bit = λ a. own_is_bit (trace_of ops width a) (trace_of-own ops ring width a (all_return a));
+    }
+
+    -- ---- told apart by traces
+
+    -- some power of x tells a and b apart by the traces of its products with them, or none below x ^ n does
+    some_or_none : (a b : A) (n : ℕ) → n ≤ width
+        → IsToldApart ops bits_of width a b ⊎ ((j : ℕ) → j < n → (e : A) → bits_of e ≡ 2 ^ j → trace_of ops width (ops.times e a) ≡ trace_of ops width (ops.times e b))
+    some_or_none a b zero le = inr (λ j lt e is. absurd (omega arith))
+    some_or_none a b (suc n) le =
+        let top : (e : A) × (bits_of e ≡ 2 ^ n) = numbered.filled (2 ^ n) (pow-lt le) in
+        by top (some_or_none a b n (omega arith)) (same_or_not ops bits_of width numbered (trace_of ops width (ops.times top.0 a)) (trace_of ops width (ops.times top.0 b)))
+      where
+        None : ℕ → Type 0
+        None m = (j : ℕ) → j < m → (e : A) → bits_of e ≡ 2 ^ j → trace_of ops width (ops.times e a) ≡ trace_of ops width (ops.times e b)
+
+        more : (top : (e : A) × (bits_of e ≡ 2 ^ n)) → None n → trace_of ops width (ops.times top.0 a) ≡ trace_of ops width (ops.times top.0 b)
+            → (j : ℕ) → j < suc n → (e : A) → bits_of e ≡ 2 ^ j → (j ≡ n) ⊎ (j ≡ n → ⊥) → trace_of ops width (ops.times e a) ≡ trace_of ops width (ops.times e b)
+        more top none same j lt e is (inl last) =
+            let whole : top.0 ≡ e = numbered.same top.0 e (top.1 ∙ ap (λ z. 2 ^ z) (sym last) ∙ sym is) in
+            subst (λ z. trace_of ops width (ops.times z a) ≡ trace_of ops width (ops.times z b)) whole same
+        more top none same j lt e is (inr other) = none j (omega arith) e is
+
+        by : (top : (e : A) × (bits_of e ≡ 2 ^ n)) → IsToldApart ops bits_of width a b ⊎ None n
+            → (trace_of ops width (ops.times top.0 a) ≡ trace_of ops width (ops.times top.0 b)) ⊎ (trace_of ops width (ops.times top.0 a) ≡ trace_of ops width (ops.times top.0 b) → ⊥)
+            → IsToldApart ops bits_of width a b ⊎ None (suc n)
+        by top (inl some) tests = inl some
+        by top (inr none) (inl same) = inr (λ j lt e is. more top none same j lt e is (cases_eq j n))
+        by top (inr none) (inr differ) = inl (record { place = n; below = le; by = top.0; bits = top.1; differ = differ })
+
+    -- where no power of x tells a and b apart, no element does
+    none_apart : (a b : A) → ((j : ℕ) → j < width → (e : A) → bits_of e ≡ 2 ^ j → trace_of ops width (ops.times e a) ≡ trace_of ops width (ops.times e b))
+        → (y : A) → trace_of ops width (ops.times y (ops.plus a b)) ≡ ops.zero
+    none_apart a b none =
+        by_powers_of_x ops bits_of width numbered (λ y. trace_of ops width (ops.times y (ops.plus a b)) ≡ ops.zero)
+        (ap (trace_of ops width) (zero_times ops ring (ops.plus a b)) ∙ trace_of-zero ops ring width)
+        (λ y z p q. ap (trace_of ops width) (distributes_left ops ring y z (ops.plus a b))
+        ∙ trace_of-plus ops ring width (ops.times y (ops.plus a b)) (ops.times z (ops.plus a b))
+        ∙ ap (λ w. ops.plus w (trace_of ops width (ops.times z (ops.plus a b)))) p
+        ∙ ap (ops.plus ops.zero) q
+        ∙ ring.plus_self ops.zero)
+        (λ j lt e is. ap (trace_of ops width) (ring.distributes e a b)
+        ∙ trace_of-plus ops ring width (ops.times e a) (ops.times e b)
+        ∙ ap (λ w. ops.plus w (trace_of ops width (ops.times e b))) (none j lt e is)
+        ∙ ring.plus_self (trace_of ops width (ops.times e b)))
+
+    -- two different elements are told apart
+    pub told_apart : (a b : A) → a ≢ b → IsToldApart ops bits_of width a b
+    told_apart a b different =
+        by (some_or_none a b width (le_refl width)) (numbered.filled certified.element certified.small) (all_invertible (ops.plus a b) (λ none. different (same_of_sum ops ring a b none)))
+      where
+        by : IsToldApart ops bits_of width a b ⊎ ((j : ℕ) → j < width → (e : A) → bits_of e ≡ 2 ^ j → trace_of ops width (ops.times e a) ≡ trace_of ops width (ops.times e b))
+            → (t : A) × (bits_of t ≡ certified.element) → (c : A) × (ops.times (ops.plus a b) c ≡ ops.one) → IsToldApart ops bits_of width a b
+        by (inl some) t inverse = some
+        by (inr none) t inverse = absurd (one_is_not_zero (sym trace_one ∙ ap (trace_of ops width) (sym back) ∙ none_apart a b none (ops.times t.0 inverse.0)))
+          where
+            back : ops.times (ops.times t.0 inverse.0) (ops.plus a b) ≡ t.0
+            back =
+                ring.times_assoc t.0 inverse.0 (ops.plus a b)
+                ∙ ap (ops.times t.0) (ring.times_comm inverse.0 (ops.plus a b) ∙ inverse.1)
+                ∙ ring.times_one t.0
+
+            trace_one : trace_of ops width t.0 ≡ ops.one
+            trace_one =
+                numbered.same (trace_of ops width t.0) ops.one
+                (trace_of-bits ops bits_of width numbered width t.0 ∙ ap (trace_of (numbers width) width) t.1 ∙ certified.trace_one ∙ sym numbered.one_bits)
