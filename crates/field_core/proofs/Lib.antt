@@ -1,0 +1,4 @@
+pub mod Nibbles
+pub mod OddPowers
+pub mod Reductions
+pub mod Windows

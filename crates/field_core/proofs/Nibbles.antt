@@ -1,0 +1,227 @@
+-- The multiples of one factor, by the nibbles of the other.
+use Rattle.std.proofs.Common.{◌≡◌, ℕ, zero, suc, ◌+◌, ◌*◌, ◌/◌, ◌%◌, ◌^◌, ◌<◌, ◌≤◌, List, [], ◌∷◌, length, slice_index, slice_index_or, slice_set, ◌≢◌, sym, ◌∙◌, ap, subst, arith, pow_mono, lit<, lit≤, below_more, get_or-set_other, get_or-set_same}
+use Rattle.std.specs.Int.Bits.{bit_xor, xor_self, xor_zero_l, xor_comm, xor_assoc, xor_lt, xor_shifted}
+use Rattle.std.proofs.Math.Nat.{one-mul, mod-lt, mod-one, mod-eq_of_lt, le_trans}
+use Rattle.std.proofs.lemmas.Nat.{pow_pos, pow-add, shl_below, mod-pow-add}
+use Rattle.sketch_rules.specs.Elements.{carryless_below, product}
+use Rattle.sketch_laws.specs.Rests.{IsRest}
+use Rattle.sketch_laws.proofs.Carryless.{carryless_below-zero_l, carryless_below-one_l, carryless_below-one_r, carryless_below-shl_r}
+use Rattle.sketch_laws.proofs.Folds.{fold_once}
+use Rattle.sketch_laws.proofs.Products.{product-below, product-shift, rest_is_the_product}
+use Rattle.sketch_laws.proofs.Rings.{product-one, product-xor, product-assoc}
+use Rattle.field_core.specs.Tables.{IsTable, AreTables}
+
+-- ---- the words
+
+-- the multiple of the low terms by the place beyond the highest
+high_place : (h : ℕ) → h < 2 → carryless_below 8 h 0x8D ≡ h * 0x8D
+high_place zero lt = carryless_below-zero_l 8 0x8D
+high_place (suc zero) lt = carryless_below-one_l 8 0x8D
+high_place (suc (suc h)) lt = absurd (omega arith)
+
+-- the product by x: a shift, and the low terms where a place went beyond the highest
+pub doubled_is : (a : ℕ) → a < 2 ^ 32 → bit_xor (a * 2 % 2 ^ 32) (a / 2 ^ 31 * 0x8D) ≡ product 32 a 2
+doubled_is a fits = rest_is_the_product 32 a 2 (bit_xor (a * 2 % 2 ^ 32) (a / 2 ^ 31 * 0x8D)) (lit< tt) fits (lit< tt) rest below
+  where
+    twice : carryless_below 32 a 2 ≡ a * 2
+    twice = carryless_below-shl_r 1 31 a 1 ∙ ap (λ z. z * 2) (carryless_below-one_r 30 a)
+
+    place : a * 2 / 2 ^ 32 ≡ a / 2 ^ 31
+    place = omega arith
+
+    is_bit : a / 2 ^ 31 < 2
+    is_bit = omega arith
+
+    folded : carryless_below 8 (a * 2 / 2 ^ 32) 0x8D ≡ a / 2 ^ 31 * 0x8D
+    folded = ap (λ z. carryless_below 8 z 0x8D) place ∙ high_place (a / 2 ^ 31) is_bit
+
+    rest : IsRest 32 (carryless_below 32 a 2) (bit_xor (a * 2 % 2 ^ 32) (a / 2 ^ 31 * 0x8D))
+    rest =
+        subst (λ z. IsRest 32 z (bit_xor (a * 2 % 2 ^ 32) (a / 2 ^ 31 * 0x8D))) (sym twice)
+        (subst (λ z. IsRest 32 (a * 2) (bit_xor (a * 2 % 2 ^ 32) z)) folded (fold_once (a * 2)))
+
+    below : bit_xor (a * 2 % 2 ^ 32) (a / 2 ^ 31 * 0x8D) < 2 ^ 32
+    below = xor_lt 32 (a * 2 % 2 ^ 32) (a / 2 ^ 31 * 0x8D) (mod-lt (a * 2) (lit< tt)) (omega arith)
+
+-- ---- the table of a nibble
+
+-- the multiple by 0
+pub multiple_zero : (a : ℕ) → a < 2 ^ 32 → product 32 a 0 ≡ 0
+multiple_zero a fits = product-xor 32 a 0 0 (lit< tt) fits (lit< tt) (lit< tt) ∙ xor_self (product 32 a 0)
+
+module _ (a two four eight : ℕ) (fits : a < 2 ^ 32) (by_two : two ≡ product 32 a 2) (by_four : four ≡ product 32 two 2) (by_eight : eight ≡ product 32 four 2) where
+  -- the multiple by 1
+  at_one : a ≡ product 32 a 1
+  at_one = sym (product-one 32 a (lit< tt) fits)
+
+  at_four : four ≡ product 32 a 4
+  at_four =
+      by_four
+      ∙ ap (λ z. product 32 z 2) by_two
+      ∙ product-assoc 32 a 2 2 (lit< tt) fits (lit< tt) (lit< tt)
+      ∙ ap (product 32 a) (product-shift 32 1 2 (lit< tt) (lit< tt) (lit< tt) (lit< tt))
+
+  at_eight : eight ≡ product 32 a 8
+  at_eight =
+      by_eight
+      ∙ ap (λ z. product 32 z 2) at_four
+      ∙ product-assoc 32 a 4 2 (lit< tt) fits (lit< tt) (lit< tt)
+      ∙ ap (product 32 a) (product-shift 32 2 2 (lit< tt) (lit< tt) (lit< tt) (lit< tt))
+
+  -- the multiple by an exclusive or
+  at_sum : (p q j d : ℕ) → p ≡ product 32 a j → q ≡ product 32 a d → j < 2 ^ 32 → d < 2 ^ 32 → bit_xor p q ≡ product 32 a (bit_xor j d)
+  at_sum p q j d at_j at_d below_j below_d =
+      ap (λ z. bit_xor z q) at_j ∙ ap (bit_xor (product 32 a j)) at_d ∙ sym (product-xor 32 a j d (lit< tt) fits below_j below_d)
+
+  at_three : bit_xor a two ≡ product 32 a 3
+  at_three = at_sum a two 1 2 at_one by_two (lit< tt) (lit< tt)
+
+  at_five : bit_xor a four ≡ product 32 a 5
+  at_five = at_sum a four 1 4 at_one at_four (lit< tt) (lit< tt)
+
+  at_six : bit_xor two four ≡ product 32 a 6
+  at_six = at_sum two four 2 4 by_two at_four (lit< tt) (lit< tt)
+
+  at_seven : bit_xor (bit_xor a two) four ≡ product 32 a 7
+  at_seven = at_sum (bit_xor a two) four 3 4 at_three at_four (lit< tt) (lit< tt)
+
+  -- the multiple by a polynomial of 3 bits and x ^ 3
+  at_upper : (p j : ℕ) → p ≡ product 32 a j → j < 2 ^ 32 → bit_xor p eight ≡ product 32 a (bit_xor j 8)
+  at_upper p j at_j below_j = at_sum p eight j 8 at_j at_eight below_j (lit< tt)
+
+  -- the sixteen multiples
+  abbrev sixteen : List ℕ
+  sixteen =
+      0 ∷ a ∷ two ∷ bit_xor a two ∷ four ∷ bit_xor a four ∷ bit_xor two four ∷ bit_xor (bit_xor a two) four
+      ∷ eight ∷ bit_xor a eight ∷ bit_xor two eight ∷ bit_xor (bit_xor a two) eight
+      ∷ bit_xor four eight ∷ bit_xor (bit_xor a four) eight ∷ bit_xor (bit_xor two four) eight
+      ∷ bit_xor (bit_xor (bit_xor a two) four) eight ∷ []
+
+  upper_are : (j : ℕ) → j < 8 → slice_index sixteen (suc (suc (suc (suc (suc (suc (suc (suc j)))))))) ≡ product 32 a (suc (suc (suc (suc (suc (suc (suc (suc j))))))))
+  upper_are zero lt = at_eight
+  upper_are (suc zero) lt = at_upper a 1 at_one (lit< tt)
+  upper_are (suc (suc zero)) lt = at_upper two 2 by_two (lit< tt)
+  upper_are (suc (suc (suc zero))) lt = at_upper (bit_xor a two) 3 at_three (lit< tt)
+  upper_are (suc (suc (suc (suc zero)))) lt = at_upper four 4 at_four (lit< tt)
+  upper_are (suc (suc (suc (suc (suc zero))))) lt = at_upper (bit_xor a four) 5 at_five (lit< tt)
+  upper_are (suc (suc (suc (suc (suc (suc zero)))))) lt = at_upper (bit_xor two four) 6 at_six (lit< tt)
+  upper_are (suc (suc (suc (suc (suc (suc (suc zero))))))) lt = at_upper (bit_xor (bit_xor a two) four) 7 at_seven (lit< tt)
+  upper_are (suc (suc (suc (suc (suc (suc (suc (suc j)))))))) lt = absurd (omega arith)
+
+  pub sixteen_are : (j : ℕ) → j < 16 → slice_index sixteen j ≡ product 32 a j
+  sixteen_are zero lt = sym (multiple_zero a fits)
+  sixteen_are (suc zero) lt = at_one
+  sixteen_are (suc (suc zero)) lt = by_two
+  sixteen_are (suc (suc (suc zero))) lt = at_three
+  sixteen_are (suc (suc (suc (suc zero)))) lt = at_four
+  sixteen_are (suc (suc (suc (suc (suc zero))))) lt = at_five
+  sixteen_are (suc (suc (suc (suc (suc (suc zero)))))) lt = at_six
+  sixteen_are (suc (suc (suc (suc (suc (suc (suc zero))))))) lt = at_seven
+  sixteen_are (suc (suc (suc (suc (suc (suc (suc (suc j)))))))) lt = upper_are j (omega arith)
+
+-- ---- the tables of all nibbles
+
+-- a nibble, i nibbles up, is an element
+pub nibble_fits : (i j : ℕ) → i < 8 → j < 16 → j * 2 ^ (4 * i) < 2 ^ 32
+nibble_fits i j place below = le_trans (shl_below j 4 (4 * i) below) (pow_mono {j = 32} (omega arith))
+
+-- the lowest place of a nibble is an element
+place_fits : (i : ℕ) → i < 8 → 2 ^ (4 * i) < 2 ^ 32
+place_fits i place = subst (λ z. z < 2 ^ 32) (one-mul (2 ^ (4 * i))) (nibble_fits i 1 place (lit< tt))
+
+-- the multiples of the factor's shift are the factor's multiples by the nibble
+pub table_is : (factor shifted i : ℕ) (table : List ℕ) → factor < 2 ^ 32 → i < 8 → shifted ≡ product 32 factor (2 ^ (4 * i)) → ((j : ℕ) → j < 16 → slice_index table j ≡ product 32 shifted j)
+    → IsTable factor i table
+table_is factor shifted i table fits place shifted_is are j below =
+    are j below
+    ∙ ap (λ z. product 32 z j) shifted_is
+    ∙ product-assoc 32 factor (2 ^ (4 * i)) j (lit< tt) fits (place_fits i place) below_j
+    ∙ ap (product 32 factor) (product-shift 32 (4 * i) j (lit< tt) (place_fits i place) below_j (nibble_fits i j place below))
+  where
+    below_j : j < 2 ^ 32
+    below_j = omega arith
+
+-- one table more is done
+pub tables_more : (factor i : ℕ) (tables : List (List ℕ)) (table : List ℕ) → i < length tables → ((k : ℕ) → k < i → IsTable factor k (slice_index_or tables k [])) → IsTable factor i table
+    → (k : ℕ) → k < i + 1 → IsTable factor k (slice_index_or (slice_set tables i table) k [])
+tables_more factor i tables table place before here =
+    below_more (λ k. IsTable factor k (slice_index_or (slice_set tables i table) k [])) i
+    (λ k below. let other : k ≢ i = omega arith in subst (IsTable factor k) (sym (get_or-set_other tables i k table [] other)) (before k below))
+    (subst (IsTable factor i) (sym (get_or-set_same tables i table [] place)) here)
+
+-- the factor's next shift
+pub shifted_next : (factor shifted eight next i : ℕ) → factor < 2 ^ 32 → i + 1 < 8 → shifted ≡ product 32 factor (2 ^ (4 * i)) → eight ≡ product 32 shifted 8 → next ≡ product 32 eight 2
+    → next ≡ product 32 factor (2 ^ (4 * (i + 1)))
+shifted_next factor shifted eight next i fits place shifted_is by_eight by_two =
+    by_two
+    ∙ ap (λ z. product 32 z 2) by_eight
+    ∙ product-assoc 32 shifted 8 2 (lit< tt) shifted_fits (lit< tt) (lit< tt)
+    ∙ ap (product 32 shifted) (product-shift 32 3 2 (lit< tt) (lit< tt) (lit< tt) (lit< tt))
+    ∙ ap (λ z. product 32 z 16) shifted_is
+    ∙ product-assoc 32 factor (2 ^ (4 * i)) 16 (lit< tt) fits (place_fits i here) (lit< tt)
+    ∙ ap (product 32 factor) (product-shift 32 (4 * i) 16 (lit< tt) (place_fits i here) (lit< tt) (subst (λ z. z < 2 ^ 32) up (place_fits (i + 1) place)) ∙ sym up)
+  where
+    here : i < 8
+    here = omega arith
+
+    shifted_fits : shifted < 2 ^ 32
+    shifted_fits = subst (λ z. z < 2 ^ 32) (sym shifted_is) (product-below 32 factor (2 ^ (4 * i)) (lit< tt) fits (place_fits i here))
+
+    more : 4 * (i + 1) ≡ 4 + 4 * i
+    more = omega arith
+
+    up : 2 ^ (4 * (i + 1)) ≡ 16 * 2 ^ (4 * i)
+    up = ap (λ z. 2 ^ z) more ∙ pow-add 2 4 (4 * i)
+
+-- ---- the product, by the tables
+
+module _ (factor b : ℕ) (fits : factor < 2 ^ 32) (b_fits : b < 2 ^ 32) where
+  -- the multiple by nibble i of b
+  abbrev by_nibble : ℕ → ℕ
+  by_nibble i = product 32 factor (b / 2 ^ (4 * i) % 16 * 2 ^ (4 * i))
+
+  -- the multiple by the nibbles of b below n
+  abbrev by_nibbles : ℕ → ℕ
+  by_nibbles zero = 0
+  by_nibbles (suc n) = bit_xor (by_nibbles n) (by_nibble n)
+
+  -- b's places below nibble i + 1, as those below nibble i and the nibble
+  nibbles_split : (i : ℕ) → b % 2 ^ (4 * suc i) ≡ bit_xor (b % 2 ^ (4 * i)) (b / 2 ^ (4 * i) % 16 * 2 ^ (4 * i))
+  nibbles_split i =
+      ap (λ z. b % 2 ^ z) more
+      ∙ mod-pow-add b 4 (4 * i)
+      ∙ sym (xor_shifted (b / 2 ^ (4 * i) % 16) (4 * i) (b % 2 ^ (4 * i)) (mod-lt b (pow_pos (4 * i))))
+      ∙ xor_comm (b / 2 ^ (4 * i) % 16 * 2 ^ (4 * i)) (b % 2 ^ (4 * i))
+    where
+      more : 4 * suc i ≡ 4 + 4 * i
+      more = omega arith
+
+  by_nibbles-are : (n : ℕ) → n ≤ 8 → product 32 factor (b % 2 ^ (4 * n)) ≡ by_nibbles n
+  by_nibbles-are zero le = ap (product 32 factor) (mod-one b) ∙ multiple_zero factor fits
+  by_nibbles-are (suc n) le =
+      ap (product 32 factor) (nibbles_split n)
+      ∙ product-xor 32 factor (b % 2 ^ (4 * n)) (b / 2 ^ (4 * n) % 16 * 2 ^ (4 * n)) (lit< tt) fits part_fits (nibble_fits n (b / 2 ^ (4 * n) % 16) (omega arith) (mod-lt (b / 2 ^ (4 * n)) (lit< tt)))
+      ∙ ap (λ z. bit_xor z (by_nibble n)) (by_nibbles-are n (omega arith))
+    where
+      part_fits : b % 2 ^ (4 * n) < 2 ^ 32
+      part_fits = le_trans (mod-lt b (pow_pos (4 * n))) (pow_mono {j = 32} (omega arith))
+
+  -- by all eight
+  by_eight_nibbles : bit_xor (bit_xor (bit_xor (by_nibble 0) (by_nibble 1)) (bit_xor (by_nibble 2) (by_nibble 3))) (bit_xor (bit_xor (by_nibble 4) (by_nibble 5)) (bit_xor (by_nibble 6) (by_nibble 7)))
+      ≡ product 32 factor b
+  by_eight_nibbles = regrouped ∙ sym (by_nibbles-are 8 (lit≤ tt)) ∙ ap (product 32 factor) (mod-eq_of_lt b_fits)
+    where
+      regrouped : bit_xor (bit_xor (bit_xor (by_nibble 0) (by_nibble 1)) (bit_xor (by_nibble 2) (by_nibble 3))) (bit_xor (bit_xor (by_nibble 4) (by_nibble 5)) (bit_xor (by_nibble 6) (by_nibble 7)))
+          ≡ by_nibbles 8
+      regrouped = simp (xor_assoc, xor_zero_l)
+
+  -- the word of nibble i
+  pub word_is : (tables : List (List ℕ)) → AreTables factor tables → (i nibble : ℕ) → i < 8 → nibble ≡ b / 2 ^ (4 * i) % 16 → slice_index (slice_index_or tables i []) nibble ≡ by_nibble i
+  word_is tables are i nibble place is =
+      are i place nibble (subst (λ z. z < 16) (sym is) (mod-lt (b / 2 ^ (4 * i)) (lit< tt)))
+      ∙ ap (λ z. product 32 factor (z * 2 ^ (4 * i))) is
+
+  -- the product is what the eight words give
+  pub words_give : (w0 w1 w2 w3 w4 w5 w6 w7 : ℕ) → w0 ≡ by_nibble 0 → w1 ≡ by_nibble 1 → w2 ≡ by_nibble 2 → w3 ≡ by_nibble 3 → w4 ≡ by_nibble 4 → w5 ≡ by_nibble 5 → w6 ≡ by_nibble 6 → w7 ≡ by_nibble 7
+      → bit_xor (bit_xor (bit_xor w0 w1) (bit_xor w2 w3)) (bit_xor (bit_xor w4 w5) (bit_xor w6 w7)) ≡ product 32 factor b
+  words_give w0 w1 w2 w3 w4 w5 w6 w7 e0 e1 e2 e3 e4 e5 e6 e7 = rw (e0, e1, e2, e3, e4, e5, e6, e7) by_eight_nibbles

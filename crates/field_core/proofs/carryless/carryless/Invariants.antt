@@ -1,0 +1,6 @@
+use Rattle.std.proofs.Common.{◌≡◌, ◌-◌, ◌*◌, ◌/◌, ◌^◌}
+use Rattle.sketch_rules.specs.Elements.{carryless_below}
+use Rattle.field_core.proofs.carryless.carryless.Given as goal
+
+abbrev pub invariant-loop-i : goal.invariant-loop-i
+invariant-loop-i l = l.sum ≡ carryless_below (4 * l.i) l.a (l.b / 2 ^ (32 - 4 * l.i))

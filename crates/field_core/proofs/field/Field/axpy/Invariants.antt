@@ -1,0 +1,9 @@
+use Rattle.std.proofs.Common.{◌≡◌, ◌++◌, length, take, drop}
+use Rattle.sketch_rules.specs.Fields.{with_multiple}
+use Rattle.field_core.proofs.field.Field.axpy.Given as goal
+
+abbrev pub invariant-loop-i : goal.invariant-loop-i
+invariant-loop-i g l = record {
+  paired : length l.acc ≡ length l.x;
+  rest : take l.i l.acc ++ with_multiple g.Self.Field.ops (drop l.i l.acc) l.k (drop l.i l.x) ≡ with_multiple g.Self.Field.ops l.fn.acc l.k l.x;
+}

@@ -1,0 +1,9 @@
+use Rattle.std.proofs.Common.{◌≡◌, ◌+◌, ◌*◌, ◌++◌, take, drop}
+use Rattle.sketch_rules.specs.Ops.{power, with_odd_powers}
+use Rattle.field_core.proofs.field.Field.odd_powers_into.Given as goal
+
+abbrev pub invariant-loop-a : goal.invariant-loop-a
+invariant-loop-a g l = record {
+  power_is : l.power ≡ power g.Self.Field.ops l.fn.e (2 * l.a-index + 1);
+  rest : take l.a-index l.acc ++ with_odd_powers g.Self.Field.ops l.fn.e l.a-index (drop l.a-index l.acc) ≡ with_odd_powers g.Self.Field.ops l.fn.e 0 l.fn.acc;
+}

@@ -1,0 +1,2 @@
+pub mod Gf32
+pub mod Tables

@@ -1,0 +1,87 @@
+//! Products of polynomials over GF(2), and their remainders by `x ^ 32 + x ^ 7 + x ^ 3 + x ^ 2 + 1`.
+
+ghost use Rattle.std.specs.Prelude.{◌≡◌, ℕ, ◌<◌, ◌^◌, ◌/◌, ◌%◌, slice_index, bit_xor};
+ghost use Rattle.sketch_rules.specs.Elements.{carryless_below, remainder};
+ghost use Rattle.sketch_rules.specs.Elements.{product as product_of};
+
+/// The multiples of `a` by the 16 polynomials of 4 bits.
+fn multiples(a: u32) -> [u64; 16]
+    ensures { (k : ℕ) → k < 16 → slice_index result k ≡ carryless_below 4 a k }
+{
+    let one = a as u64;
+    let (two, four, eight) = (one * 2, one * 4, one * 8);
+    let three = one ^ two;
+    let (five, six, seven) = (one ^ four, two ^ four, three ^ four);
+    [
+        0,
+        one,
+        two,
+        three,
+        four,
+        five,
+        six,
+        seven,
+        eight,
+        one ^ eight,
+        two ^ eight,
+        three ^ eight,
+        four ^ eight,
+        five ^ eight,
+        six ^ eight,
+        seven ^ eight,
+    ]
+}
+
+/// The product of two polynomials, by windows of 4 bits from the top.
+fn carryless(a: u32, b: u32) -> u64
+    ensures { result ≡ carryless_below 32 a b }
+{
+    let table = multiples(a);
+    let mut sum: u64 = 0;
+    for i in 0..8u32 {
+        let window = (b >> (28 - 4 * i)) & 15;
+        sum = (sum << 4) ^ table[window as usize];
+    }
+    sum
+}
+
+/// What may stand for `p` where only its remainder by the modulus counts: its terms from `x ^ 32` on are replaced by
+/// their product with the modulus's lower terms.
+fn folded(p: u64) -> u64
+    ensures { result ≡ bit_xor (p % 2 ^ 32) (carryless_below 8 (p / 2 ^ 32) 0x8D) }
+{
+    let high = p >> 32;
+    (p & 0xffff_ffff) ^ (high ^ (high << 2) ^ (high << 3) ^ (high << 7))
+}
+
+/// The remainder of `p` by the modulus.
+fn reduce(p: u64) -> u32
+    ensures { result ≡ remainder 32 32 p }
+{
+    folded(folded(p)) as u32
+}
+
+/// The product of the elements of these bits.
+pub fn product(a: u32, b: u32) -> u32
+    ensures { result ≡ product_of 32 a b }
+{
+    reduce(carryless(a, b))
+}
+
+#[cfg(test)]
+mod tests {
+    use super::product;
+
+    // the square and the cube of the highest power, among others
+    #[test]
+    fn products_are_known(rt: HostRuntime) {
+        for (a, b, want) in [
+            (0x8000_0000, 2, 0x8d),
+            (0x8000_0000, 0x8000_0000, 0x4000_1037),
+            (0x4000_1037, 0x8000_0000, 0x2004_6d72),
+            (0xffff_ffff, 1, 0xffff_ffff),
+        ] {
+            assert_eq!(rt; product(a, b), want, "at {a}");
+        }
+    }
+}

@@ -1,0 +1,14 @@
+//! Finite fields of characteristic 2: what generic code asks of a field, and the field of 2 ^ 32 elements.
+#![tactic(auto)]
+
+mod carryless;
+mod field;
+mod gf32;
+mod multiples;
+mod odd_powers;
+#[cfg(test)]
+mod tests;
+
+pub use field::Field;
+pub use gf32::Gf32;
+pub use multiples::Multiples;
