@@ -1,0 +1,4 @@
+pub mod Polynomials
+pub mod Remainders
+pub mod Recurrences
+pub mod Roots
