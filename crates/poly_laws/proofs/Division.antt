@@ -1,0 +1,136 @@
+-- Long division by a monic polynomial, one step at a time, and that there is a remainder.
+use Rattle.std.proofs.Common.{◌≡◌, ◌⊎◌, inl, inr, ℕ, suc, ◌+◌, ◌<◌, ◌≤◌, List, [], ◌∷◌, ◌++◌, length, take, replicate, refl, sym, ap, subst, ◌∙◌, arith}
+use Rattle.std.proofs.lemmas.List.{take_more, take_all, length-take-le, length-map, map-append}
+use Rattle.sketch_rules.specs.Ops.{Ops, IsRing}
+use Rattle.sketch_rules.specs.Fields.{with_multiple}
+use Rattle.poly_rules.specs.Polynomials.{coefficient, Same, IsMonic, sum_of, scaled, product_of}
+use Rattle.poly_rules.specs.Remainders.{IsRemainder}
+use Rattle.poly_laws.specs.Rests.{IsRest}
+use Rattle.sketch_laws.proofs.RingFacts.{zero_plus}
+use Rattle.poly_laws.proofs.Elements.{plus_turn}
+use Rattle.poly_laws.proofs.Sums.{same_self, same_back, same_along, same_of, same_cons, sum_same}
+use Rattle.poly_laws.proofs.Products.{product_shift, product_term}
+use Rattle.poly_laws.proofs.Remainders.{monic-split, rest_self, rest_along, remainder_of_rest}
+
+module _ {A : Type 0} (ops : Ops A) where
+  -- a sum with a list that is no longer has the length of the first
+  pub length-sum : (f g : List A) → length g ≤ length f → length (sum_of ops f g) ≡ length f
+  unfolding sum_of
+  length-sum [] [] le = refl
+  length-sum [] (b ∷ g) le = absurd (omega arith)
+  length-sum (a ∷ f) [] le = refl
+  length-sum (a ∷ f) (b ∷ g) le = ap suc (length-sum f g (omega arith))
+
+  -- and the other way about
+  pub length-sum-r : (f g : List A) → length f ≤ length g → length (sum_of ops f g) ≡ length g
+  unfolding sum_of
+  length-sum-r [] g le = refl
+  length-sum-r (a ∷ f) [] le = absurd (omega arith)
+  length-sum-r (a ∷ f) (b ∷ g) le = ap suc (length-sum-r f g (omega arith))
+
+  -- adding a multiple place by place is a sum
+  pub with_multiple-sum : (k : A) (acc xs : List A) → length xs ≤ length acc → with_multiple ops acc k xs ≡ sum_of ops acc (scaled ops k xs)
+  unfolding with_multiple sum_of
+  with_multiple-sum k [] [] le = refl
+  with_multiple-sum k [] (x ∷ xs) le = absurd (omega arith)
+  with_multiple-sum k (a ∷ acc) [] le = refl
+  with_multiple-sum k (a ∷ acc) (x ∷ xs) le = ap (λ z. ops.plus a (ops.times k x) ∷ z) (with_multiple-sum k acc xs (omega arith))
+
+module _ {A : Type 0} (ops : Ops A) (ring : IsRing ops) where
+  -- a sum at whose start one of the two has nothing
+  sum_behind : (u f g : List A) → Same ops (sum_of ops (replicate (length u) ops.zero ++ f) (u ++ g)) (u ++ sum_of ops f g)
+  unfolding sum_of
+  sum_behind [] f g = same_self ops (sum_of ops f g)
+  sum_behind (a ∷ u) f g = same_cons ops (ops.plus ops.zero a) a (zero_plus ops ring a) (sum_behind u f g)
+
+  -- what is added to the lower coefficients is taken away again
+  sum_back : (k top : A) (l t : List A) → length t ≡ length l → Same ops (sum_of ops (scaled ops k l ++ top ∷ []) (sum_of ops t (scaled ops k l))) (t ++ top ∷ [])
+  unfolding sum_of
+  sum_back k top [] [] e = same_self ops (top ∷ [])
+  sum_back k top [] (a ∷ t) e = absurd (omega arith)
+  sum_back k top (b ∷ l) [] e = absurd (omega arith)
+  sum_back k top (b ∷ l) (a ∷ t) e =
+      same_cons ops (ops.plus (ops.times k b) (ops.plus a (ops.times k b))) a
+      (plus_turn ops ring (ops.times k b) a (ops.times k b) ∙ ap (ops.plus a) (ring.plus_self (ops.times k b)) ∙ ring.plus_zero a)
+      (sum_back k top l t (omega arith))
+
+  -- one step: the highest coefficient k goes, and k times f's lower coefficients are added to the n below it
+  pub division_step : (n : ℕ) (f u t : List A) (k : A) → IsMonic ops n f → length t ≡ n
+      → IsRest ops f (u ++ (t ++ k ∷ [])) (u ++ sum_of ops t (scaled ops k (take n f)))
+  division_step n f u t k monic size = record {
+    quotient = replicate (length u) ops.zero ++ k ∷ [];
+    divides = same_back ops (same_along ops (sum_same ops ring shifted (same_self ops (u ++ sum_of ops t (scaled ops k (take n f)))))
+        (same_along ops (sum_behind u (scaled ops k (take n f) ++ k ∷ []) (sum_of ops t (scaled ops k (take n f)))) (under u (sum_back k k (take n f) t even))));
+  }
+    where
+      even : length t ≡ length (take n f)
+      even = size ∙ sym (length-take-le n f (omega (arith, monic.size)))
+
+      parts : scaled ops k f ≡ scaled ops k (take n f) ++ k ∷ []
+      parts =
+          ap (scaled ops k) (monic-split ops n f monic)
+          ∙ map-append (λ a. ops.times k a) (take n f) (ops.one ∷ [])
+          ∙ ap (λ z. scaled ops k (take n f) ++ z ∷ []) (ring.times_one k)
+
+      shifted : Same ops (product_of ops (replicate (length u) ops.zero ++ k ∷ []) f) (replicate (length u) ops.zero ++ (scaled ops k (take n f) ++ k ∷ []))
+      shifted = same_along ops (product_term ops ring (length u) k f) (same_of ops (ap (λ z. replicate (length u) ops.zero ++ z) parts))
+
+      under : (v : List A) {g h : List A} → Same ops g h → Same ops (v ++ g) (v ++ h)
+      under [] e = e
+      under (a ∷ v) e = same_cons ops a a refl (under v e)
+
+  -- the rest of x times a polynomial, with a constant
+  rest_cons : (f p r : List A) (a : A) → IsRest ops f p r → IsRest ops f (a ∷ p) (a ∷ r)
+  unfolding sum_of
+  rest_cons f p r a h = record {
+    quotient = ops.zero ∷ h.quotient;
+    divides =
+        same_along ops (same_cons ops a (ops.plus ops.zero a) (sym (zero_plus ops ring a)) h.divides)
+        (sum_same ops ring {g = a ∷ r} (same_back ops (product_shift ops ring h.quotient f)) (same_self ops (a ∷ r)));
+  }
+
+  -- each polynomial has a rest of at most n coefficients
+  rest_exists : (n : ℕ) (f : List A) → IsMonic ops n f → (p : List A) → (r : List A) × IsRest ops f p r × (length r ≤ n)
+  rest_exists n f monic [] = ([], rest_self ops ring f [], omega arith)
+  rest_exists n f monic (a ∷ p) = grown (rest_exists n f monic p)
+    where
+      grown : (r : List A) × IsRest ops f p r × (length r ≤ n) → (r : List A) × IsRest ops f (a ∷ p) r × (length r ≤ n)
+      grown (r, h, short) = by_size (cases (length r) n)
+        where
+          cases : (i m : ℕ) → (i < m) ⊎ (m ≤ i)
+          cases i m = grind arith
+
+          reduced : n ≤ length r → (s : List A) × IsRest ops f (a ∷ p) s × (length s ≤ n)
+          reduced long = (sum_of ops (take n (a ∷ r)) (scaled ops (coefficient ops (a ∷ r) n) (take n f)), whole, omega (arith, size))
+            where
+              split : a ∷ r ≡ take n (a ∷ r) ++ coefficient ops (a ∷ r) n ∷ []
+              split =
+                  sym (take_all (n + 1) (a ∷ r) (omega arith))
+                  ∙ take_more (a ∷ r) n ops.zero (omega arith)
+
+              low : length (take n (a ∷ r)) ≡ n
+              low = length-take-le n (a ∷ r) (omega arith)
+
+              size : length (sum_of ops (take n (a ∷ r)) (scaled ops (coefficient ops (a ∷ r) n) (take n f))) ≡ n
+              size =
+                  length-sum ops (take n (a ∷ r)) (scaled ops (coefficient ops (a ∷ r) n) (take n f))
+                  (omega (arith, low, length-map (take n f) (λ b. ops.times (coefficient ops (a ∷ r) n) b), length-take-le n f (omega (arith, monic.size))))
+                  ∙ low
+
+              whole : IsRest ops f (a ∷ p) (sum_of ops (take n (a ∷ r)) (scaled ops (coefficient ops (a ∷ r) n) (take n f)))
+              whole =
+                  rest_along ops ring f (a ∷ p) (a ∷ r) (sum_of ops (take n (a ∷ r)) (scaled ops (coefficient ops (a ∷ r) n) (take n f)))
+                  (rest_cons f p r a h)
+                  (subst (λ z. IsRest ops f z (sum_of ops (take n (a ∷ r)) (scaled ops (coefficient ops (a ∷ r) n) (take n f)))) (sym split)
+                  (division_step n f [] (take n (a ∷ r)) (coefficient ops (a ∷ r) n) monic low))
+
+          by_size : (length r < n) ⊎ (n ≤ length r) → (s : List A) × IsRest ops f (a ∷ p) s × (length s ≤ n)
+          by_size (inl lt) = (a ∷ r, rest_cons f p r a h, omega arith)
+          by_size (inr long) = reduced long
+
+  -- there is a remainder by a monic polynomial
+  pub remainder_exists : (n : ℕ) (f p : List A) → IsMonic ops n f → (r : List A) × IsRemainder ops p f r
+  remainder_exists n f p monic = made (rest_exists n f monic p)
+    where
+      made : (r : List A) × IsRest ops f p r × (length r ≤ n) → (r : List A) × IsRemainder ops p f r
+      made (r, h, short) = (r, remainder_of_rest ops ring n f p r monic h short)
