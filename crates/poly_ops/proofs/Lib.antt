@@ -1,0 +1,4 @@
+pub mod Dividing
+pub mod Steps
+pub mod Extending
+pub mod Tables
