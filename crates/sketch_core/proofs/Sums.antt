@@ -1,0 +1,37 @@
+-- Sums of odd powers, one element at a time.
+use Rattle.std.proofs.Common.{◌≡◌, ℕ, zero, suc, ◌+◌, ◌*◌, List, [], ◌∷◌, ◌++◌, ◌<◌, length, get_or, take, replicate, refl, sym, ◌∙◌, ap}
+use Rattle.std.proofs.lemmas.List.{take_more}
+use Rattle.sketch_rules.specs.Ops.{Ops, IsRing, power, power_sum, sums_from, with_odd_powers}
+
+module _ {A : Type 0} (ops : Ops A) where
+  -- the sums of no element are zeros
+  pub sums_of_none : (i n : ℕ) → sums_from ops [] i n ≡ replicate n ops.zero
+  unfolding sums_from power_sum
+  sums_of_none i zero = refl
+  sums_of_none i (suc n) = ap (λ rest. ops.zero ∷ rest) (sums_of_none (i + 1) n)
+
+  pub length-sums_from : (es : List A) (i n : ℕ) → length (sums_from ops es i n) ≡ n
+  unfolding sums_from
+  length-sums_from es i zero = refl
+  length-sums_from es i (suc n) = ap suc (length-sums_from es (i + 1) n)
+
+  -- a sum of powers grows by the power of an element that is put at the end
+  pub power_sum-more : IsRing ops → (k : ℕ) (es : List A) (e : A) → ops.plus (power_sum ops k es) (power ops e k) ≡ power_sum ops k (es ++ e ∷ [])
+  unfolding power_sum
+  power_sum-more ring k [] e = ring.plus_comm ops.zero (power ops e k)
+  power_sum-more ring k (d ∷ es) e =
+      ring.plus_assoc (power ops d k) (power_sum ops k es) (power ops e k) ∙ ap (ops.plus (power ops d k)) (power_sum-more ring k es e)
+
+  -- the sums of a list with an element at its end: those of the list, with the odd powers of the element
+  pub sums_from-more : IsRing ops → (es : List A) (e : A) (i n : ℕ) → with_odd_powers ops e i (sums_from ops es i n) ≡ sums_from ops (es ++ e ∷ []) i n
+  unfolding sums_from with_odd_powers
+  sums_from-more ring es e i zero = refl
+  sums_from-more ring es e i (suc n) =
+      rw (power_sum-more ring (2 * i + 1) es e, sums_from-more ring es e (i + 1) n) refl
+
+  -- the element at place i taken in
+  pub sums_from-take : IsRing ops → (es : List A) (e : A) (i n : ℕ) → i < length es → e ≡ get_or es i e
+      → with_odd_powers ops e 0 (sums_from ops (take i es) 0 n) ≡ sums_from ops (take (i + 1) es) 0 n
+  sums_from-take ring es e i n lt is =
+      let next : take (i + 1) es ≡ take i es ++ e ∷ [] = take_more es i e lt ∙ ap (λ x. take i es ++ x ∷ []) (sym is) in
+      sums_from-more ring (take i es) e 0 n ∙ ap (λ xs. sums_from ops xs 0 n) (sym next)
