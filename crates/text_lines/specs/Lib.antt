@@ -1,0 +1,3 @@
+pub mod Cuts
+pub mod Views
+pub mod Gives
