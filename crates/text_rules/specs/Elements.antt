@@ -1,0 +1,33 @@
+-- Elements as text: what `make` reads.
+use Rattle.std.specs.Prelude.{ℕ, ◌==◌, ◌++◌, if◌then◌else◌, List, [], ◌∷◌, length, Result, Ok, Err}
+use Rattle.std.specs.List.{list_any}
+use Rattle.std.specs.Int.{from_be_bytes, w32}
+use Rattle.hex.specs.Hex.{decode_of}
+use Rattle.hex.specs.declared.error.FromHexError.{FromHexError}
+use Rattle.base_types.specs.declared.text.Kind.{Kind}
+use Rattle.base_types.specs.declared.text.Kind.TheVariants as kind
+use Rattle.base_types.specs.declared.text.TextFault.{TextFault}
+use Rattle.line_rules.specs.Lines.{lines_of}
+use Rattle.line_rules.specs.Reading.{read_lines}
+
+-- an element is a number from 1 on
+abbrev pub nonzero : ℕ → Result ℕ Kind
+nonzero e = if e == 0 then Err kind.Zero else Ok e
+
+-- the number whose 4 bytes, the most significant first, a line's digits spell
+abbrev pub spelled : Result (List ℕ) FromHexError → Result ℕ Kind
+spelled (Ok bytes) = nonzero (from_be_bytes w32 bytes)
+spelled (Err fault) = Err kind.BadDigit
+
+-- the element of a line, which has 8 digits of either case
+abbrev pub element_of : List ℕ → Result ℕ Kind
+element_of bytes = if length bytes == 8 then spelled (decode_of bytes) else Err kind.DigitCount
+
+-- one more element of a set
+abbrev pub put_in : List ℕ → Result ℕ Kind → Result (List ℕ) Kind
+put_in es (Ok e) = if list_any (λ d. d == e) es then Err kind.Repeated else Ok (es ++ e ∷ [])
+put_in es (Err k) = Err k
+
+-- the set whose elements the lines list, in their order
+abbrev pub set_in : List ℕ → Result (List ℕ) TextFault
+set_in text = read_lines (λ es bytes. put_in es (element_of bytes)) [] (lines_of text)

@@ -1,0 +1,3 @@
+pub mod Elements
+pub mod Faults
+pub mod Limits
