@@ -1,0 +1,6 @@
+pub mod Found
+pub mod Pairs
+pub mod Marks
+pub mod Spelled
+pub mod Sets
+pub mod Numbers

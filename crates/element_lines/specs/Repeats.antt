@@ -1,0 +1,23 @@
+-- The first of some numbers that repeats an earlier one.
+use Rattle.std.specs.Prelude.{◌≡◌, ◌≢◌, ◌<◌, ℕ, List, length, take, slice_index}
+use Rattle.std.specs.List.{AllPairs, AllWithin, Contains}
+
+-- no two numbers are equal
+abbrev pub AreDistinct : List ℕ → Type 0
+AreDistinct xs = AllPairs (λ a b. a ≢ b) xs
+
+-- each number that xs has twice is among `repeats`
+abbrev pub HasRepeats : List ℕ → List ℕ → Type 0
+HasRepeats repeats xs = AllPairs (λ a b. a ≡ b → Contains repeats a) xs
+
+-- the number at `place` repeats an earlier one, and none before it does
+pub record IsFirstRepeat (xs : List ℕ) (place : ℕ) : Type 0 where
+  pub within : place < length xs
+  pub fresh : AreDistinct (take place xs)
+  pub again : Contains (take place xs) (slice_index xs place)
+
+-- x stands at `place`, and the numbers before it are those that are smaller
+pub record IsPlace (xs : List ℕ) (x place : ℕ) : Type 0 where
+  pub within : place < length xs
+  pub here : slice_index xs place ≡ x
+  pub smaller : AllWithin (λ y. y < x) xs 0 place
