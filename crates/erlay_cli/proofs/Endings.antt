@@ -1,0 +1,113 @@
+-- What the ends of a run say where the input tells its bytes.
+use Rattle.std.proofs.Common.{◌≡◌, ◌≢◌, ℕ, ◌<◌, ◌≤◌, ◌⊎◌, inl, inr, List, ◌++◌, length, refl, sym, ap, ◌∙◌, subst, arith, length-append, Ok, Err, Result}
+use Rattle.std.proofs.lemmas.Bool.{cases_lt, le-ltb, lt-ltb}
+use Rattle.std.proofs.lemmas.Fmt.{decimal_injective}
+use Rattle.std.proofs.lemmas.List.{append-nil}
+use Rattle.std.specs.Fmt.{decimal}
+use Rattle.std.specs.Io.KnownBytes.{Appends, Consumes, IsAtEnd}
+use Rattle.std.specs.declared.option.Option.{Option}
+use Rattle.std.specs.declared.option.Option.TheVariants.{Some, None}
+use Rattle.base_types.specs.declared.text.TextFault.{TextFault}
+use Rattle.line_rules.specs.Lines.{line}
+use Rattle.text_rules.specs.Elements.{set_in}
+use Rattle.text_rules.specs.Faults.{too_long}
+use Rattle.text_rules.specs.Limits.{input_limit}
+use Rattle.erlay_cli.specs.SketchLines.{sum_in}
+use Rattle.erlay_cli.specs.declared.command.Command.{Command}
+use Rattle.erlay_cli.specs.declared.command.Command.TheVariants as command
+use Rattle.erlay_cli.specs.declared.status.Status.{Status}
+use Rattle.erlay_cli.specs.declared.status.Status.TheVariants as status
+use Rattle.erlay_cli.specs.Words.{HasForm, Asks}
+use Rattle.erlay_cli.specs.Outside.{Seen, Reads}
+use Rattle.erlay_cli.specs.Answers.{Answer, Leads, answer_to, made, summed, work_of}
+use Rattle.erlay_cli.specs.Ends.{Ends, Finishes, IsAnswer, IsAnswerTo}
+
+-- words ask for one command
+pub one_form : (words : List (List ℕ)) (c d : Command) → HasForm words c → HasForm words d → c ≡ d
+one_form words command.Merge command.Merge is_m is_n = λ i. command.Merge
+one_form words (command.Make m) command.Merge is_m is_n = absurd (let lens : 2 ≡ 1 = ap length (sym is_m.0 ∙ is_n) in omega arith)
+one_form words command.Merge (command.Make n) is_m is_n = absurd (let lens : 1 ≡ 2 = ap length (sym is_m ∙ is_n.0) in omega arith)
+one_form words (command.Make m) (command.Make n) is_m is_n =
+    let same : decimal m ≡ decimal n = cc (is_m.0, is_n.0) in
+    ap command.Make (decimal_injective m n (omega (arith, is_m.1)) (omega (arith, is_n.1)) same)
+
+-- the bytes that were read, where the input told its bytes: all of them, or more than the limit of them
+pub all_or_too_long : (text input : List ℕ) (left : Option (List ℕ)) → Consumes (Some text) left input → IsAtEnd left ⊎ (input_limit < length input)
+    → (text ≡ input) ⊎ ((input_limit < length input) × (input_limit < length text))
+all_or_too_long text input None consumes either = absurd consumes
+all_or_too_long text input (Some rest) consumes (inl ended) = inl (consumes ∙ ap (λ left. input ++ left) ended ∙ append-nil input)
+all_or_too_long text input (Some rest) consumes (inr long) =
+    let len : length text ≡ length (input ++ rest) = ap length consumes in
+    inr (long, omega (arith, long, simp length-append at len))
+
+-- the answer to an input above the limit does not go by its bytes
+long_answer : (c : Command) (text : List ℕ) → input_limit < length text → answer_to c text ≡ record { status = status.TooLong input_limit; text = line (too_long input_limit) }
+long_answer c text long = rw (lt-ltb input_limit (length text) long) refl
+
+pub short_answer : (c : Command) (text : List ℕ) → length text ≤ input_limit → answer_to c text ≡ work_of c text
+short_answer c text short = rw (le-ltb input_limit (length text) short) refl
+
+-- what was read leads to what the whole input leads to
+leads_whole : (c : Command) (text input : List ℕ) (end : Status) (t : List ℕ) → (text ≡ input) ⊎ ((input_limit < length input) × (input_limit < length text))
+    → Leads c input end t → Leads c text end t
+leads_whole c text input end t (inl same) leads = subst (λ (bytes : List ℕ). Leads c bytes end t) (sym same) leads
+leads_whole c text input end t (inr long) leads =
+    let same : answer_to c input ≡ answer_to c text = long_answer c input long.0 ∙ sym (long_answer c text long.1) in
+    (leads.0 ∙ ap (λ (a : Answer). a.status) same, leads.1 ∙ ap (λ (a : Answer). a.text) same)
+
+module _ (words : List (List ℕ)) (old new : Seen) (c : Command) (text : List ℕ) (form : HasForm words c) (told : old.bytes ≡ Some text) where
+  -- an answer that read its input
+  answer_read : (end : Status) (t : List ℕ) → Asks words (λ d. Reads old new (λ input. Leads d input end t)) → Leads c text end t
+  answer_read end t (d, asks, (input, consumes, either, leads)) =
+      let same = one_form words d c asks form in
+      leads_whole c text input end t (all_or_too_long text input new.bytes (rw (← told) consumes) either) (subst (λ (x : Command). Leads x input end t) same leads)
+
+  pub answer_told : (end : Status) (t : List ℕ) → IsAnswer words old new end t → IsAnswerTo c text end t
+  answer_told status.Ok t answer = answer_read status.Ok t answer
+  answer_told (status.BadInput place k) t answer = answer_read (status.BadInput place k) t answer
+  answer_told (status.TooLong limit) t answer = answer_read (status.TooLong limit) t answer
+  answer_told status.Usage t answer = absurd (answer.0 c form)
+  answer_told status.ReadFault t answer = answer.1
+  answer_told status.OutOfMemory t answer = answer.1
+  answer_told status.WriteFault t answer = absurd answer
+
+-- the end of a call whose text was written whole
+written_whole : (Answer : Status → List ℕ → Type 0) (old new : Seen) (end : Status) (text : List ℕ) → (Answer status.WriteFault text → ⊥)
+    → Answer end text → Appends old.bytes new.bytes text → Ends Answer old new end
+written_whole Answer old new status.WriteFault text none answer wrote = absurd (none answer)
+written_whole Answer old new status.Ok text none answer wrote = (text, answer, wrote)
+written_whole Answer old new status.Usage text none answer wrote = (text, answer, wrote)
+written_whole Answer old new (status.BadInput place k) text none answer wrote = (text, answer, wrote)
+written_whole Answer old new (status.TooLong limit) text none answer wrote = (text, answer, wrote)
+written_whole Answer old new status.ReadFault text none answer wrote = (text, answer, wrote)
+written_whole Answer old new status.OutOfMemory text none answer wrote = (text, answer, wrote)
+
+-- the end of a call that had an answer, and then wrote it
+pub finished : (Answer : Status → List ℕ → Type 0) (old new : Seen) (end : Status) (text : List ℕ) (result : Status) → (Answer status.WriteFault text → ⊥)
+    → Answer end text → Finishes end text old new result → Ends Answer old new result
+finished Answer old new end text result none answer (inl (same, wrote)) =
+    subst (λ (r : Status). Ends Answer old new r) (sym same) (written_whole Answer old new end text none answer wrote)
+finished Answer old new end text result none answer (inr (same, rose, part)) =
+    subst (λ (r : Status). Ends Answer old new r) (sym same) (rose, (end, text, answer, part))
+
+-- no answer is a failed write, nor that the words have no form
+made_ends : (capacity : ℕ) (r : Result (List ℕ) TextFault) → ((made capacity r).status ≢ status.WriteFault) × ((made capacity r).status ≢ status.Usage)
+made_ends capacity (Ok es) = (λ e. cc, λ e. cc)
+made_ends capacity (Err f) = (λ e. cc, λ e. cc)
+
+summed_ends : (r : Result (List ℕ) TextFault) → ((summed r).status ≢ status.WriteFault) × ((summed r).status ≢ status.Usage)
+summed_ends (Ok es) = (λ e. cc, λ e. cc)
+summed_ends (Err f) = (λ e. cc, λ e. cc)
+
+work_ends : (c : Command) (input : List ℕ) → ((work_of c input).status ≢ status.WriteFault) × ((work_of c input).status ≢ status.Usage)
+work_ends (command.Make capacity) input = made_ends capacity (set_in input)
+work_ends command.Merge input = summed_ends (sum_in input)
+
+answer_ends : (c : Command) (input : List ℕ) → ((answer_to c input).status ≢ status.WriteFault) × ((answer_to c input).status ≢ status.Usage)
+answer_ends c input = elim (cases_lt input_limit (length input)) [
+  | inl long ↦ rw (long_answer c input long) (λ e. cc, λ e. cc)
+  | inr short ↦ rw (short_answer c input short) (work_ends c input)
+]
+
+pub no_write_fault : (c : Command) (input t : List ℕ) → IsAnswerTo c input status.WriteFault t → ⊥
+no_write_fault c input t answer = (answer_ends c input).0 (sym answer.0)

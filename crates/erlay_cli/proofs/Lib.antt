@@ -1,0 +1,5 @@
+pub mod Endings
+pub mod Examples
+pub mod Numbers
+pub mod Sets
+pub mod Texts

@@ -1,0 +1,30 @@
+use Rattle.std.proofs.Common.{◌≡◌, ◌≢◌, ◌∙◌, List, map, ap, subst, sym}
+use Rattle.std.specs.Result.{IfOk}
+use Rattle.std.specs.List.{All, AllPairs}
+use Rattle.sketch_rules.specs.Ops.{sketch_by}
+use Rattle.sketch_rules.specs.Sketches.{sketch_of}
+use Rattle.field_core.specs.declared.gf32.Gf32.{Gf32}
+use Rattle.field_core.specs.Gf32.{bits_of, numbered, ops}
+use Rattle.sketch_core.proofs.Numbers.{sketch_by-numbers}
+use Rattle.text_rules.specs.Elements.{set_in}
+use Rattle.erlay_cli.specs.Answers.{Answer, Reports, made, sketched}
+use Rattle.erlay_cli.proofs.Sets.{apart, nonzero}
+use Rattle.erlay_cli.proofs.make.make.Goals as goal
+
+pub of-requires-clause-nonzero : goal.of-requires-clause-nonzero
+of-requires-clause-nonzero c =
+    let elements : All (λ e. e ≢ ops.zero) c.in-Ok.elements.items = nonzero c.in-Ok.elements.items c.in-Ok.ensures.elements in
+    subst (λ (es : List Gf32). All (λ e. e ≢ ops.zero) es) (sym c.as_slice.ensures.value) elements
+
+pub of-requires-clause-distinct : goal.of-requires-clause-distinct
+of-requires-clause-distinct c =
+    let distinct : AllPairs (λ a b. a ≢ b) c.in-Ok.elements.items = apart c.in-Ok.elements.items c.in-Ok.ensures.distinct in
+    subst (λ (es : List Gf32). AllPairs (λ a b. a ≢ b) es) (sym c.as_slice.ensures.value) distinct
+
+pub returns : goal.returns
+returns c =
+    let numbers = sketch_by-numbers ops bits_of 32 numbered c.in-Ok.elements.items c.args.capacity in
+    let items : c.in-Ok-of.sketch ≡ sketch_by ops c.in-Ok.elements.items c.args.capacity = c.in-Ok-of.ensures.ok ∙ ap (λ es. sketch_by ops es c.args.capacity) c.as_slice.ensures.value in
+    let sums : map bits_of c.in-Ok-of.sketch ≡ sketch_of (map bits_of c.in-Ok.elements.items) c.args.capacity = ap (map bits_of) items ∙ numbers in
+    let answer : sketched (map bits_of c.in-Ok-of.sketch) ≡ made c.args.capacity (set_in c.args.input.now) = ap sketched sums ∙ ap (made c.args.capacity) (sym c.in-Ok.ensures.gives) in
+    subst (λ (a : Answer). IfOk c.sketch_report.result (λ report. Reports report a)) answer c.sketch_report.ensures

@@ -1,0 +1,32 @@
+use Rattle.std.proofs.Common.{map}
+use Rattle.std.specs.String.{string_bytes}
+use Rattle.erlay_cli.specs.Outside.{seen}
+use Rattle.erlay_cli.specs.Ends.{IsAnswer, IsAnswerTo}
+use Rattle.erlay_cli.proofs.Endings.{answer_told, finished, no_write_fault}
+use Rattle.erlay_cli.proofs.top.run.Goals as goal
+
+pub returns-in-Ok-clause-ends : goal.returns-in-Ok-clause-ends
+returns-in-Ok-clause-ends g c =
+    let Answer = IsAnswer (map string_bytes c.args.words.now) (seen g.I.Source.left g.I.Source.faults c.args.input.now) (seen g.I.Source.left g.I.Source.faults c.answer.new.input) in
+    finished Answer (seen g.O.Sink.written g.O.Sink.faults c.args.output.now) (seen g.O.Sink.written g.O.Sink.faults c.finish.new.output)
+    c.in-Ok.report.status c.as_slice.result.now c.finish.result (λ none. none) (rw c.as_slice.ensures.value c.in-Ok.ensures.ok) c.finish.ensures.finishes
+
+pub returns-in-Ok-clause-told : goal.returns-in-Ok-clause-told
+returns-in-Ok-clause-told g c command text form told =
+    let answer = answer_told (map string_bytes c.args.words.now) (seen g.I.Source.left g.I.Source.faults c.args.input.now) (seen g.I.Source.left g.I.Source.faults c.answer.new.input) command text form told
+    c.in-Ok.report.status c.as_slice.result.now (rw c.as_slice.ensures.value c.in-Ok.ensures.ok) in
+    finished (IsAnswerTo command text) (seen g.O.Sink.written g.O.Sink.faults c.args.output.now) (seen g.O.Sink.written g.O.Sink.faults c.finish.new.output)
+    c.in-Ok.report.status c.as_slice.result.now c.finish.result (no_write_fault command text c.as_slice.result.now) answer c.finish.ensures.finishes
+
+pub returns-in-Err-clause-ends : goal.returns-in-Err-clause-ends
+returns-in-Err-clause-ends g c =
+    let Answer = IsAnswer (map string_bytes c.args.words.now) (seen g.I.Source.left g.I.Source.faults c.args.input.now) (seen g.I.Source.left g.I.Source.faults c.answer.new.input) in
+    finished Answer (seen g.O.Sink.written g.O.Sink.faults c.args.output.now) (seen g.O.Sink.written g.O.Sink.faults c.finish-in-Err.new.output)
+    c.status.result c.text.result.now c.finish-in-Err.result (λ none. none) (rw (c.status.ensures, c.text.ensures) c.in-Err.ensures.err) c.finish-in-Err.ensures.finishes
+
+pub returns-in-Err-clause-told : goal.returns-in-Err-clause-told
+returns-in-Err-clause-told g c command text form told =
+    let answer = answer_told (map string_bytes c.args.words.now) (seen g.I.Source.left g.I.Source.faults c.args.input.now) (seen g.I.Source.left g.I.Source.faults c.answer.new.input) command text form told
+    c.status.result c.text.result.now (rw (c.status.ensures, c.text.ensures) c.in-Err.ensures.err) in
+    finished (IsAnswerTo command text) (seen g.O.Sink.written g.O.Sink.faults c.args.output.now) (seen g.O.Sink.written g.O.Sink.faults c.finish-in-Err.new.output)
+    c.status.result c.text.result.now c.finish-in-Err.result (no_write_fault command text c.text.result.now) answer c.finish-in-Err.ensures.finishes

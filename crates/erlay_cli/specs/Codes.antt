@@ -1,0 +1,13 @@
+-- The exit status of the program.
+use Rattle.std.specs.Prelude.{ℕ}
+use Rattle.erlay_cli.specs.declared.status.Status.{Status}
+use Rattle.erlay_cli.specs.declared.status.Status.TheVariants as status
+
+abbrev pub code_of : Status → ℕ
+code_of status.Ok = 0
+code_of status.Usage = 1
+code_of (status.BadInput place k) = 2
+code_of status.ReadFault = 5
+code_of status.WriteFault = 6
+code_of (status.TooLong limit) = 10
+code_of status.OutOfMemory = 11

@@ -1,0 +1,21 @@
+-- The text and the status of a run that a command gave no answer to.
+use Rattle.std.specs.Prelude.{ℕ, List}
+use Rattle.line_rules.specs.Lines.{line}
+use Rattle.text_rules.specs.Faults.{usage, read_fault, too_long, out_of_memory}
+use Rattle.text_rules.specs.Limits.{input_limit}
+use Rattle.erlay_cli.specs.declared.report.Stop.{Stop}
+use Rattle.erlay_cli.specs.declared.report.Stop.TheVariants as stop
+use Rattle.erlay_cli.specs.declared.status.Status.{Status}
+use Rattle.erlay_cli.specs.declared.status.Status.TheVariants as status
+
+abbrev pub text_of : Stop → List ℕ
+text_of stop.Usage = line usage
+text_of stop.ReadFault = line read_fault
+text_of stop.TooLong = line (too_long input_limit)
+text_of stop.OutOfMemory = line out_of_memory
+
+abbrev pub status_of : Stop → Status
+status_of stop.Usage = status.Usage
+status_of stop.ReadFault = status.ReadFault
+status_of stop.TooLong = status.TooLong input_limit
+status_of stop.OutOfMemory = status.OutOfMemory

@@ -1,0 +1,90 @@
+//! The words of the command line.
+
+ghost use Rattle.std.specs.Prelude.{◌≡◌, ◌≢◌, ℕ, [], ◌∷◌, map, MatchOption};
+ghost use Rattle.std.specs.Fmt.{decimal};
+ghost use Rattle.std.specs.String.{string_bytes};
+ghost use Rattle.sketch_rules.specs.Sketches.{IsCapacity};
+ghost use Rattle.erlay_cli.specs.Words.{HasForm, IsFormless};
+
+use crate::number::decimal_of;
+use sketch_core::MAX_CAPACITY;
+
+/// What the command line asks for.
+#[derive(Clone, Copy, Debug, PartialEq, Eq)]
+pub enum Command {
+    /// Write the sketch of the elements of the input. The capacity is from 1 to 4096.
+    Make(usize),
+    /// Write the sum of the two sketches of the input.
+    Merge,
+}
+
+/// The capacity of a sketch that the text spells in decimal digits.
+#[tactic(auto, using(std::proofs::lemmas::Fmt::decimal_injective))]
+fn capacity_of(text: &str) -> Option<usize>
+    ensures { MatchOption result ((n : ℕ) → IsCapacity n → text.now ≢ decimal n) (λ n. IsCapacity n × (text.now ≡ decimal n)) }
+{
+    let capacity = usize::try_from(decimal_of(text)?).ok()?;
+    (1..=MAX_CAPACITY).contains(&capacity).then_some(capacity)
+}
+
+/// The command of a name alone.
+fn without_argument(name: &str) -> Option<Command>
+    ensures { MatchOption result (IsFormless (name.now ∷ [])) (HasForm (name.now ∷ [])) }
+{
+    match name {
+        "merge" => Some(Command::Merge),
+        _ => None,
+    }
+}
+
+/// The command of a name and one argument.
+fn with_argument(name: &str, argument: &str) -> Option<Command>
+    ensures { MatchOption result (IsFormless (name.now ∷ argument.now ∷ [])) (HasForm (name.now ∷ argument.now ∷ [])) }
+{
+    match name {
+        "make" => Some(Command::Make(capacity_of(argument)?)),
+        _ => None,
+    }
+}
+
+/// The command that the words ask for, where they have the form of one.
+pub fn command_of(words: &[String]) -> Option<Command>
+    ensures { MatchOption result (IsFormless (map string_bytes words.now)) (HasForm (map string_bytes words.now)) }
+{
+    match words {
+        [name] => without_argument(name.as_str()),
+        [name, argument] => with_argument(name.as_str(), argument.as_str()),
+        _ => None,
+    }
+}
+
+#[cfg(test)]
+mod tests {
+    use super::*;
+    use std::alloc::{AllocError, Global};
+
+    fn words_of(alloc: Global, line: &str) -> Result<Vec<String>, AllocError> {
+        let mut words = Vec::new(alloc);
+        for word in line.split_ascii_whitespace() {
+            words.push(word.to_string(alloc)?)?;
+        }
+        Ok(words)
+    }
+
+    #[test]
+    fn words_ask_for_commands(rt: HostRuntime) {
+        for (line, want) in [
+            ("make 3", Some(Command::Make(3))),
+            ("make 0", None),
+            ("make 4097", None),
+            ("make 01", None),
+            ("make", None),
+            ("", None),
+            ("merge", Some(Command::Merge)),
+            ("merge 2", None),
+        ] {
+            let words = words_of(rt.alloc(), line).expect(&rt, "memory");
+            assert_eq!(rt; command_of(words.as_slice()), want, "at {line}");
+        }
+    }
+}

@@ -1,0 +1,16 @@
+//! The program's top call: words, input, answer, output.
+#![tactic(auto)]
+
+mod command;
+mod faults;
+mod make;
+mod merge;
+mod number;
+mod report;
+mod status;
+#[cfg(test)]
+mod tests;
+mod top;
+
+pub use status::Status;
+pub use top::{run, stopped};

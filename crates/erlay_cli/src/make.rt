@@ -1,0 +1,30 @@
+//! The command `make`.
+
+ghost use Rattle.std.specs.Prelude.{IfOk};
+ghost use Rattle.sketch_rules.specs.Sketches.{IsCapacity};
+ghost use Rattle.text_rules.specs.Elements.{set_in};
+ghost use Rattle.erlay_cli.specs.Answers.{Reports, made};
+
+use crate::faults::fault_report;
+use crate::report::{Report, sketch_report};
+use base_types::OutOfMemory;
+use element_lines::set_of;
+use sketch_core::Sketch;
+use std::alloc::Global;
+use text_lines::ReadStop;
+
+/// Answers the line of the sketch of the set that the input lists.
+pub fn make(alloc: Global, capacity: usize, input: &[u8]) -> Result<Report, OutOfMemory>
+    requires { IsCapacity capacity }
+    ensures { IfOk result (λ report. Reports report (made capacity (set_in input.now))) }
+{
+    let elements = match set_of(alloc, input) {
+        Ok(elements) => elements,
+        Err(ReadStop::Fault(fault)) => return fault_report(alloc, &fault),
+        Err(ReadStop::OutOfMemory) => return Err(OutOfMemory),
+    };
+    let Ok(sketch) = Sketch::of(alloc, elements.as_slice(), capacity) else {
+        return Err(OutOfMemory);
+    };
+    sketch_report(alloc, &sketch)
+}

@@ -1,0 +1,43 @@
+//! Numbers in the words of the command line.
+
+ghost use Rattle.std.specs.Prelude.{◌≡◌, ◌≢◌, ◌<◌, ◌^◌, ℕ, MatchOption};
+ghost use Rattle.std.specs.Fmt.{decimal};
+
+/// The number that the text spells in decimal digits, without a sign and without leading zeros.
+pub fn decimal_of(text: &str) -> Option<u64>
+    ensures { MatchOption result ((n : ℕ) → n < 2 ^ 64 → text.now ≢ decimal n) (λ n. text.now ≡ decimal n) }
+{
+    if text == "0" {
+        return Some(0);
+    }
+    if text.starts_with('0') || text.starts_with('+') {
+        return None;
+    }
+    text.parse().ok()
+}
+
+#[cfg(test)]
+mod tests {
+    use super::*;
+
+    #[test]
+    fn texts_spell_numbers(rt: HostRuntime) {
+        for (text, want) in [
+            ("0", Some(0)),
+            ("1", Some(1)),
+            ("4096", Some(4096)),
+            ("18446744073709551615", Some(u64::MAX)),
+            ("18446744073709551616", None),
+            ("", None),
+            ("00", None),
+            ("01", None),
+            ("+1", None),
+            ("-1", None),
+            (" 1", None),
+            ("1 ", None),
+            ("1a", None),
+        ] {
+            assert_eq!(rt; decimal_of(text), want, "at {text}");
+        }
+    }
+}

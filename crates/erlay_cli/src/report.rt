@@ -1,0 +1,71 @@
+//! What a run is to write, and how it is to end.
+
+ghost use Rattle.std.specs.Prelude.{ℕ, List, ◌≡◌, IfOk, map};
+ghost use Rattle.line_rules.specs.Lines.{line};
+ghost use Rattle.text_rules.specs.Faults.{read_fault, out_of_memory};
+ghost use Rattle.erlay_cli.specs.Answers.{Reports, sketched};
+ghost use Rattle.erlay_cli.specs.Stops.{text_of, status_of};
+
+use crate::status::Status;
+use base_types::OutOfMemory;
+use field_core::{Field, Gf32};
+use sketch_bytes::to_line;
+use sketch_core::Sketch;
+use std::alloc::Global;
+
+/// The greatest number of bytes that a command reads from its input.
+pub const INPUT_LIMIT: usize = 67_108_864;
+
+/// The text of a command's answer, and its status.
+#[derive(Drop)]
+pub struct Report {
+    pub status: Status,
+    pub text: Vec<u8>,
+}
+
+/// The line of a sketch, as an answer.
+pub fn sketch_report(alloc: Global, sketch: &Sketch<Gf32>) -> Result<Report, OutOfMemory>
+    ensures { IfOk result (λ report. Reports report (sketched (map ⟦<Gf32 as Field>⟧.bits_of sketch.now))) }
+{
+    let digits = to_line(alloc, sketch)?;
+    let mut text = digits.as_slice().to_vec(alloc)?;
+    text.push(b'\n')?;
+    Ok(Report {
+        status: Status::Ok,
+        text,
+    })
+}
+
+/// Why a command gave no answer of its own. The texts are fixed, and take no memory.
+#[derive(Clone, Copy, Debug, PartialEq, Eq)]
+pub enum Stop {
+    Usage,
+    ReadFault,
+    TooLong,
+    OutOfMemory,
+}
+
+impl Stop {
+    /// The text to write, with its line end.
+    pub fn text(self) -> &'static [u8]
+        ensures { result.now ≡ text_of self }
+    {
+        match self {
+            Stop::Usage => b"usage\n",
+            Stop::ReadFault => b"read fault\n",
+            Stop::TooLong => b"too long 67108864\n",
+            Stop::OutOfMemory => b"out of memory\n",
+        }
+    }
+
+    pub fn status(self) -> Status
+        ensures { result ≡ status_of self }
+    {
+        match self {
+            Stop::Usage => Status::Usage,
+            Stop::ReadFault => Status::ReadFault,
+            Stop::TooLong => Status::TooLong(INPUT_LIMIT as u64),
+            Stop::OutOfMemory => Status::OutOfMemory,
+        }
+    }
+}

@@ -1,0 +1,43 @@
+//! How a run ended.
+
+ghost use Rattle.std.specs.Prelude.{◌≡◌};
+
+use base_types::Kind;
+
+/// How a run ended.
+#[derive(Clone, Copy, Debug, PartialEq, Eq)]
+pub enum Status {
+    /// The command did its work, and its text was written.
+    Ok,
+    /// The words of the command line ask for no command.
+    Usage,
+    /// The input has a fault, the first of which is named.
+    BadInput { place: u64, kind: Kind },
+    /// A read of the input failed.
+    ReadFault,
+    /// A write of the output failed. Nothing was written after it.
+    WriteFault,
+    /// The input has more bytes than the limit, which is named.
+    TooLong(u64),
+    /// Memory ran out.
+    OutOfMemory,
+}
+
+impl Status {
+    ghost use Rattle.erlay_cli.specs.Codes.{code_of};
+
+    /// The exit status of the program.
+    pub fn code(&self) -> u8
+        ensures { result ≡ code_of self.now }
+    {
+        match self {
+            Status::Ok => 0,
+            Status::Usage => 1,
+            Status::BadInput { .. } => 2,
+            Status::ReadFault => 5,
+            Status::WriteFault => 6,
+            Status::TooLong(_) => 10,
+            Status::OutOfMemory => 11,
+        }
+    }
+}

@@ -1,0 +1,107 @@
+//! The top call.
+
+ghost use Rattle.std.specs.Prelude.{◌≡◌, ◌⊎◌, ◌≤◌, ℕ, List, IfOk, IfErr, Some, map};
+ghost use Rattle.std.specs.String.{string_bytes};
+ghost use Rattle.erlay_base.specs.Causes.{Rose};
+ghost use Rattle.line_rules.specs.Lines.{line};
+ghost use Rattle.text_rules.specs.Faults.{out_of_memory};
+ghost use Rattle.erlay_cli.specs.Words.{HasForm, IsFormless};
+ghost use Rattle.erlay_cli.specs.Outside.{seen};
+ghost use Rattle.erlay_cli.specs.Answers.{Reports, work_of};
+ghost use Rattle.erlay_cli.specs.Ends.{Ends, Finishes, IsAnswer, IsAnswerTo, IsSound};
+ghost use Rattle.erlay_cli.specs.Stops.{status_of, text_of};
+ghost use Rattle.erlay_cli.specs.declared.command.Command.{Command};
+
+use crate::command::{Command, command_of};
+use crate::make::make;
+use crate::merge::merge;
+use crate::report::{INPUT_LIMIT, Report, Stop};
+use crate::status::Status;
+use erlay_base::{ReadEnd, Sink, Source, read_all, write_all};
+use std::alloc::Global;
+
+/// Does what the words of the command line ask for, reads the input if the command reads it, and writes one text.
+pub fn run<I: Source, O: Sink>(
+    alloc: Global,
+    words: &[String],
+    input: &mut I,
+    output: &mut O,
+) -> Status
+    ensures ends { Ends
+        (IsAnswer (map string_bytes words.now) (seen I.left I.faults input.old) (seen I.left I.faults input.new))
+        (seen O.written O.faults output.old) (seen O.written O.faults output.new) result }
+
+    // Where the input tells its bytes, they alone lead to the text and the status.
+    ensures told { (c : Command) (text : List ℕ) → HasForm (map string_bytes words.now) c → I.left input.old ≡ Some text
+        → Ends (IsAnswerTo c text) (seen O.written O.faults output.old) (seen O.written O.faults output.new) result }
+
+    // Usage comes exactly where the words have no form; then the input is as it was.
+    ensures usage { result ≡ Status.Usage → IsFormless (map string_bytes words.now) }
+    ensures formless { IsFormless (map string_bytes words.now) → (result ≡ Status.Usage) ⊎ (result ≡ Status.WriteFault) }
+    ensures untouched { IsFormless (map string_bytes words.now) → input.new ≡ input.old }
+
+    // A fault of the outside comes only where its count rose, and no count falls.
+    ensures read_fault { result ≡ Status.ReadFault → Rose (I.faults input.old) (I.faults input.new) }
+    ensures write_fault { result ≡ Status.WriteFault → Rose (O.faults output.old) (O.faults output.new) }
+    ensures later { (I.faults input.old ≤ I.faults input.new) × (O.faults output.old ≤ O.faults output.new) }
+
+    // With a sound input and no fault of the outside, nothing but want of memory keeps the command from its work.
+    ensures complete { (c : Command) (text : List ℕ) → HasForm (map string_bytes words.now) c → I.left input.old ≡ Some text → IsSound c text
+        → ¬ Rose (I.faults input.old) (I.faults input.new) → ¬ Rose (O.faults output.old) (O.faults output.new)
+        → (result ≡ Status.Ok) ⊎ (result ≡ Status.OutOfMemory) }
+{
+    match answer(alloc, words, input) {
+        Ok(report) => finish(output, report.status, report.text.as_slice()),
+        Err(stop) => finish(output, stop.status(), stop.text()),
+    }
+}
+
+/// Ends a run whose words could not be taken in for want of memory.
+pub fn stopped<O: Sink>(output: &mut O) -> Status
+    ensures finishes { Finishes Status.OutOfMemory (line out_of_memory) (seen O.written O.faults output.old) (seen O.written O.faults output.new) result }
+    ensures later { O.faults output.old ≤ O.faults output.new }
+{
+    finish(output, Stop::OutOfMemory.status(), Stop::OutOfMemory.text())
+}
+
+/// The answer to the words, before it is written.
+fn answer<I: Source>(alloc: Global, words: &[String], input: &mut I) -> Result<Report, Stop>
+    ensures ok { IfOk result (λ report. IsAnswer (map string_bytes words.now) (seen I.left I.faults input.old) (seen I.left I.faults input.new) report.status report.text.items) }
+    ensures err { IfErr result (λ stop. IsAnswer (map string_bytes words.now) (seen I.left I.faults input.old) (seen I.left I.faults input.new) (status_of stop) (text_of stop)) }
+    ensures untouched { IsFormless (map string_bytes words.now) → input.new ≡ input.old }
+    ensures later { I.faults input.old ≤ I.faults input.new }
+{
+    let Some(command) = command_of(words) else {
+        return Err(Stop::Usage);
+    };
+    match read_all(alloc, input, INPUT_LIMIT) {
+        Ok(bytes) => work(alloc, command, bytes.as_slice()),
+        Err(ReadEnd::Failed) => Err(Stop::ReadFault),
+        Err(ReadEnd::TooLong) => Err(Stop::TooLong),
+        Err(ReadEnd::OutOfMemory) => Err(Stop::OutOfMemory),
+    }
+}
+
+/// Does the command's work on an input within the limit.
+fn work(alloc: Global, command: Command, input: &[u8]) -> Result<Report, Stop>
+    requires { (words : List (List ℕ)) × HasForm words command }
+    ensures ok { IfOk result (λ report. Reports report (work_of command input.now)) }
+    ensures err { IfErr result (λ stop. stop ≡ Stop.OutOfMemory) }
+{
+    let answered = match command {
+        Command::Make(capacity) => make(alloc, capacity, input),
+        Command::Merge => merge(alloc, input),
+    };
+    answered.map_err(|_| Stop::OutOfMemory)
+}
+
+/// Writes the text. The status is `end`, unless a write fails.
+fn finish<O: Sink>(output: &mut O, end: Status, text: &[u8]) -> Status
+    ensures finishes { Finishes end text.now (seen O.written O.faults output.old) (seen O.written O.faults output.new) result }
+    ensures later { O.faults output.old ≤ O.faults output.new }
+{
+    match write_all(output, text) {
+        Ok(()) => end,
+        Err(_) => Status::WriteFault,
+    }
+}
