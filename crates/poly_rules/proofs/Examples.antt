@@ -4,7 +4,7 @@ use Rattle.sketch_rules.specs.Fields.{dot_of}
 use Rattle.sketch_rules.specs.Elements.{carryless_below, remainder, product, numbers}
 use Rattle.poly_rules.specs.Polynomials.{value_at, sum_of, product_of, x_to_the}
 use Rattle.poly_rules.specs.Remainders.{IsRemainder}
-use Rattle.poly_rules.specs.Recurrences.{Extends}
+use Rattle.poly_rules.specs.Recurrences.{Extends, Recurs}
 
 -- x ^ 2 + 3x + 2 is 0 at 1
 root : value_at (numbers 32) (2 ∷ 3 ∷ 1 ∷ []) 1 ≡ 0
@@ -35,3 +35,23 @@ extension = record { size = refl; begins = refl; goes_on = on }
     on zero from below = refl
     on (suc zero) from below = refl
     on (suc (suc k)) from below = absurd (omega arith)
+
+-- the same as a recurrence: 9 is 3 * 5 + 2 * 3, and 0x11 is 3 * 9 + 2 * 5
+recurrence : Recurs (numbers 32) (3 ∷ 2 ∷ []) (3 ∷ 5 ∷ 9 ∷ 0x11 ∷ [])
+unfolding product remainder carryless_below dot_of
+recurrence = record { each = each }
+  where
+    each : (k : ℕ) → k + 2 < 4 → get_or (3 ∷ 5 ∷ 9 ∷ 0x11 ∷ []) (k + 2) 0 ≡ dot_of (numbers 32) (2 ∷ 3 ∷ []) (drop k (3 ∷ 5 ∷ 9 ∷ 0x11 ∷ []))
+    each zero below = refl
+    each (suc zero) below = refl
+    each (suc (suc k)) below = absurd (omega arith)
+
+-- zeros alone follow the recurrence of length 0
+zeros : Recurs (numbers 32) [] (0 ∷ 0 ∷ [])
+unfolding dot_of
+zeros = record { each = each }
+  where
+    each : (k : ℕ) → k + 0 < 2 → get_or (0 ∷ 0 ∷ []) (k + 0) 0 ≡ dot_of (numbers 32) [] (drop k (0 ∷ 0 ∷ []))
+    each zero below = refl
+    each (suc zero) below = refl
+    each (suc (suc k)) below = absurd (omega arith)

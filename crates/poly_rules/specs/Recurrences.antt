@@ -1,5 +1,5 @@
--- The linear recurrence that a polynomial gives.
-use Rattle.std.specs.Prelude.{◌≡◌, ℕ, ◌+◌, ◌<◌, ◌≤◌, List, length, take, drop}
+-- Linear recurrences of sequences.
+use Rattle.std.specs.Prelude.{◌≡◌, ℕ, ◌+◌, ◌<◌, ◌≤◌, List, length, take, drop, reverse}
 use Rattle.sketch_rules.specs.Ops.{Ops}
 use Rattle.sketch_rules.specs.Fields.{dot_of}
 use Rattle.poly_rules.specs.Polynomials.{coefficient, degree}
@@ -10,3 +10,13 @@ pub record Extends {A : Type 0} (ops : Ops A) (f sums : List A) (n : ℕ) (s : L
   pub begins : take (length sums) s ≡ sums
   pub goes_on : (k : ℕ) → length sums ≤ k + degree f → k + degree f < n
       → coefficient ops s (k + degree f) ≡ dot_of ops (take (degree f) f) (drop k s)
+
+-- the recurrence with the coefficients c_1, .., c_L holds of s: each item from place L on is c_1 times the item before it,
+-- and c_2 times the one before that, and so on to c_L times the one L places before
+pub record Recurs {A : Type 0} (ops : Ops A) (cs s : List A) : Type 0 where
+  pub each : (k : ℕ) → k + length cs < length s → coefficient ops s (k + length cs) ≡ dot_of ops (reverse cs) (drop k s)
+
+-- a recurrence that holds of s, and none shorter does
+pub record IsShortest {A : Type 0} (ops : Ops A) (cs s : List A) : Type 0 where
+  pub holds : Recurs ops cs s
+  pub least : (ds : List A) → Recurs ops ds s → length cs ≤ length ds

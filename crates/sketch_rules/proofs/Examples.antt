@@ -1,11 +1,12 @@
 -- Worked examples, computed from the definitions alone.
-use Rattle.std.proofs.Common.{◌≡◌, [], ◌∷◌, refl}
+use Rattle.std.proofs.Common.{◌≡◌, ℕ, zero, suc, ◌+◌, ◌*◌, ◌<◌, [], ◌∷◌, get_or, refl, arith, lit<, lit≤}
 use Rattle.hex.specs.Hex.{encode_with}
 use Rattle.std.specs.Prelude.{codes}
-use Rattle.sketch_rules.specs.Ops.{power, power_sum, sums_from}
-use Rattle.sketch_rules.specs.Elements.{carryless_below, remainder, product}
+use Rattle.sketch_rules.specs.Ops.{power, power_sum, sums_from, every_sum, IsAllSums}
+use Rattle.sketch_rules.specs.Elements.{carryless_below, remainder, product, numbers}
 use Rattle.sketch_rules.specs.Sketches.{digits_of, merged, sketch_of}
 use Rattle.sketch_rules.specs.Sets.{ascending, difference, placed}
+use Rattle.sketch_rules.specs.Answers.{Rises, Answer}
 
 -- x ^ 32 is the low terms of the modulus
 turned : product 32 0x80000000 2 ≡ 0x8D
@@ -49,3 +50,31 @@ differ = refl
 summed : merged (sketch_of (1 ∷ 2 ∷ []) 2) (sketch_of (2 ∷ []) 2) ≡ sketch_of (1 ∷ []) 2
 unfolding product remainder carryless_below power power_sum sums_from merged
 summed = refl
+
+-- all four sums of 1 and 2, and how those of odd powers determine them
+four : every_sum (numbers 32) (1 ∷ 2 ∷ []) 1 4 ≡ 3 ∷ 5 ∷ 9 ∷ 0x11 ∷ []
+unfolding product remainder carryless_below power power_sum every_sum
+four = refl
+
+determined : IsAllSums (numbers 32) (3 ∷ 9 ∷ []) (3 ∷ 5 ∷ 9 ∷ 0x11 ∷ [])
+unfolding product remainder carryless_below
+determined = record { size = refl; odd = odd; even = even }
+  where
+    odd : (i : ℕ) → i < 2 → get_or {A = ℕ} (3 ∷ 5 ∷ 9 ∷ 0x11 ∷ []) (2 * i) 0 ≡ get_or (3 ∷ 9 ∷ []) i 0
+    odd zero below = refl
+    odd (suc zero) below = refl
+    odd (suc (suc i)) below = absurd (omega arith)
+
+    even : (i : ℕ) → i < 2 → get_or (3 ∷ 5 ∷ 9 ∷ 0x11 ∷ []) (2 * i + 1) 0 ≡ product 32 (get_or (3 ∷ 5 ∷ 9 ∷ 0x11 ∷ []) i 0) (get_or (3 ∷ 5 ∷ 9 ∷ 0x11 ∷ []) i 0)
+    even zero below = refl
+    even (suc zero) below = refl
+    even (suc (suc i)) below = absurd (omega arith)
+
+-- 1 and 2 are a set that the sketch 3, 9 is of; at capacity 1 the sketch of 1 and 2 is that of 3
+answered : Answer 32 (3 ∷ 9 ∷ []) (1 ∷ 2 ∷ [])
+unfolding product remainder carryless_below power power_sum sums_from Rises
+answered = record { rises = (lit≤ tt, lit< tt, (lit≤ tt, lit< tt, tt)); few = lit≤ tt; sketched = refl }
+
+falsely_answered : Answer 32 (sketch_of (1 ∷ 2 ∷ []) 1) (3 ∷ [])
+unfolding product remainder carryless_below power power_sum sums_from Rises
+falsely_answered = record { rises = (lit≤ tt, lit< tt, tt); few = lit≤ tt; sketched = refl }

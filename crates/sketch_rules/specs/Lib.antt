@@ -4,3 +4,4 @@ pub mod Elements
 pub mod Numbered
 pub mod Sketches
 pub mod Sets
+pub mod Answers

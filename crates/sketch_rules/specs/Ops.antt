@@ -1,5 +1,5 @@
 -- Powers, power sums and sketches over any type with a sum and a product.
-use Rattle.std.specs.Prelude.{◌≡◌, ℕ, zero, suc, ◌+◌, ◌*◌, List, [], ◌∷◌}
+use Rattle.std.specs.Prelude.{◌≡◌, ℕ, zero, suc, ◌+◌, ◌*◌, ◌<◌, List, [], ◌∷◌, length, get_or}
 
 pub record Ops (A : Type 0) : Type 0 where
   pub zero : A
@@ -37,6 +37,18 @@ sums_from ops es i (suc n) = power_sum ops (2 * i + 1) es ∷ sums_from ops es (
 -- Extractors, section 6.3
 abbrev pub sketch_by : {A : Type 0} → Ops A → List A → ℕ → List A
 sketch_by ops es c = sums_from ops es 0 c
+
+-- the n sums s_k, s_(k+1), .. of all powers, from s_k on
+unfoldable pub every_sum : {A : Type 0} → Ops A → List A → ℕ → ℕ → List A
+every_sum ops es k zero = []
+every_sum ops es k (suc n) = power_sum ops k es ∷ every_sum ops es (k + 1) n
+
+-- s is the list s_1, s_2, .., s_(2c) that belongs to the c sums of odd powers: the sums stand at the odd powers, and at
+-- each even power the square of the sum of half that power, since squaring is additive
+pub record IsAllSums {A : Type 0} (ops : Ops A) (sums s : List A) : Type 0 where
+  pub size : length s ≡ 2 * length sums
+  pub odd : (i : ℕ) → i < length sums → get_or s (2 * i) ops.zero ≡ get_or sums i ops.zero
+  pub even : (i : ℕ) → i < length sums → get_or s (2 * i + 1) ops.zero ≡ ops.times (get_or s i ops.zero) (get_or s i ops.zero)
 
 -- e ^ (2i + 1) added to each item at place i, where the first of them stands at place i
 unfoldable pub with_odd_powers : {A : Type 0} → Ops A → A → ℕ → List A → List A
