@@ -15,4 +15,5 @@ pub mod RingFacts
 pub mod Rings
 pub mod Sets
 pub mod Traces
+pub mod Weights
 pub mod Xors
