@@ -43,7 +43,7 @@ module _ {A : Type 0} (ops : Ops A) where
       sym full ∙ take_more f n ops.zero lt ∙ ap (λ z. take n f ++ z ∷ []) monic.top
 
   -- a sum is as short as its terms
-  length-sum-below : (n : ℕ) (f g : List A) → length f < n → length g < n → length (sum_of ops f g) < n
+  pub length-sum-below : (n : ℕ) (f g : List A) → length f < n → length g < n → length (sum_of ops f g) < n
   unfolding sum_of
   length-sum-below n [] g short_f short_g = short_g
   length-sum-below n (a ∷ f) [] short_f short_g = short_f
