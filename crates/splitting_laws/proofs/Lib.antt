@@ -1,3 +1,4 @@
 pub mod Windows
 pub mod Recurrences
 pub mod Traces
+pub mod Parts
