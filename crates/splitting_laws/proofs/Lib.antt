@@ -2,3 +2,4 @@ pub mod Windows
 pub mod Recurrences
 pub mod Traces
 pub mod Parts
+pub mod Returns
