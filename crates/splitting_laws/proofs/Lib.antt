@@ -3,3 +3,4 @@ pub mod Recurrences
 pub mod Traces
 pub mod Parts
 pub mod Returns
+pub mod Alike

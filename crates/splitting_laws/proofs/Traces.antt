@@ -1,5 +1,5 @@
 -- Values of trace polynomials, and what a table of remainders of x, x ^ 2, x ^ 4, .. says of the roots.
-use Rattle.std.proofs.Common.{◌≡◌, ℕ, zero, suc, ◌+◌, ◌^◌, ◌<◌, ◌≤◌, List, [], length, get_or, refl, sym, ap, ◌∙◌, arith, add-one, replicate}
+use Rattle.std.proofs.Common.{◌≡◌, ℕ, zero, suc, ◌+◌, ◌^◌, ◌<◌, ◌≤◌, List, [], ◌∷◌, length, get_or, refl, sym, ap, ◌∙◌, arith, add-one, replicate}
 use Rattle.std.proofs.lemmas.List.{length-map}
 use Rattle.sketch_rules.specs.Ops.{Ops, IsRing, power}
 use Rattle.sketch_rules.specs.Fields.{conjugate, trace_of, with_multiple}
@@ -15,10 +15,15 @@ use Rattle.poly_laws.proofs.Values.{value_at-same, value_at-sum, value_at-scaled
 use Rattle.splitting_laws.specs.Traces.{trace_polynomial}
 
 module _ {A : Type 0} (ops : Ops A) (ring : IsRing ops) where
+  -- the value of an element alone
+  pub value_at-constant : (c e : A) → value_at ops (c ∷ []) e ≡ c
+  unfolding value_at
+  value_at-constant c e = ap (ops.plus c) (times_zero ops ring e) ∙ ring.plus_zero c
+
   -- the value of x ^ n
   pub value_at-power : (n : ℕ) (e : A) → value_at ops (x_to_the ops n) e ≡ power ops e n
   unfolding value_at power
-  value_at-power zero e = ap (ops.plus ops.one) (times_zero ops ring e) ∙ ring.plus_zero ops.one
+  value_at-power zero e = value_at-constant ops.one e
   value_at-power (suc n) e =
       zero_plus ops ring (ops.times e (value_at ops (x_to_the ops n) e))
       ∙ ap (ops.times e) (value_at-power n e)
