@@ -39,7 +39,7 @@ module _ {A : Type 0} (ops : Ops A) (ring : IsRing ops) where
   -- ---- a recurrence holds where its polynomial's dots with the windows are zero
 
   -- the dot of u and a one with a longer list
-  dot_of-end : (u s : List A) (d : A) → length u < length s → dot_of ops (u ++ ops.one ∷ []) s ≡ ops.plus (dot_of ops u s) (get_or s (length u) d)
+  pub dot_of-end : (u s : List A) (d : A) → length u < length s → dot_of ops (u ++ ops.one ∷ []) s ≡ ops.plus (dot_of ops u s) (get_or s (length u) d)
   unfolding dot_of
   dot_of-end [] [] d lt = absurd (omega arith)
   dot_of-end [] (x ∷ s) d lt = ring.plus_zero (ops.times ops.one x) ∙ one_times ops ring x ∙ sym (zero_plus ops ring x)
