@@ -5,3 +5,4 @@ pub mod Traces
 pub mod Parts
 pub mod Returns
 pub mod Alike
+pub mod Permutations
