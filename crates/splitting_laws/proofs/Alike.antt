@@ -14,7 +14,7 @@ use Rattle.splitting_laws.specs.Traces.{trace_polynomial}
 use Rattle.splitting_laws.specs.Parts.{part_of, others_of}
 use Rattle.splitting_laws.specs.Alike.{IsAlike}
 use Rattle.poly_laws.proofs.Values.{value_at-same}
-use Rattle.splitting_laws.proofs.Traces.{value_at-constant, trace_polynomial-same}
+use Rattle.splitting_laws.proofs.Traces.{value_at-constant, traced_of}
 use Rattle.splitting_laws.proofs.Parts.{IsToldBy, told_by_bits}
 
 module _ {A : Type 0} (ops : Ops A) (bits_of : A → ℕ) (n : ℕ) where
@@ -89,17 +89,12 @@ module _ {A : Type 0} (ops : Ops A) (bits_of : A → ℕ) (n : ℕ) where
       alike_in_others = alike_more j b ops.zero (filter (λ e. not (p e)) es) is others_traces (alike_part j (λ e. not (p e)) es alike)
 
 module _ {A : Type 0} (ops : Ops A) (ring : IsRing ops) (bits_of : A → ℕ) (n : ℕ) (field : IsField ops n) (numbered : IsNumbered ops bits_of n) where
-  -- the values of a trace polynomial of the basis element b, at the roots of f
-  pub traced_of : (f : List A) (table : List (List A)) (b : A) (t es : List A) → IsFrobeniusTable ops f n table → All (IsRoot ops f) es → Same ops t (trace_polynomial ops b n table)
-      → All (λ e. value_at ops t e ≡ trace_of ops n (ops.times b e)) es
-  traced_of f table b t es frobenius roots same = λ i d lt. trace_polynomial-same ops ring f n table b (get_or es i d) t frobenius (roots i d lt) same
-
-  -- they are zero or one, as the test of their bits says
+  -- the values of a trace polynomial at the roots of f are zero or one, as the test of their bits says
   pub told_of_traces : (f : List A) (table : List (List A)) (b : A) (t es : List A) → IsFrobeniusTable ops f n table → All (IsRoot ops f) es → Same ops t (trace_polynomial ops b n table)
       → All (IsToldBy ops t (λ e. nat_eq (bits_of (value_at ops t e)) 1)) es
   told_of_traces f table b t es frobenius roots same = λ i d lt.
       told_by_bits ops bits_of n numbered t (get_or es i d)
-      (by_trace (get_or es i d) (traced_of f table b t es frobenius roots same i d lt) (field.trace_is_bit (ops.times b (get_or es i d))))
+      (by_trace (get_or es i d) (traced_of ops ring f n table b t es frobenius roots same i d lt) (field.trace_is_bit (ops.times b (get_or es i d))))
     where
       by_trace : (e : A) → value_at ops t e ≡ trace_of ops n (ops.times b e) → (trace_of ops n (ops.times b e) ≡ ops.zero) ⊎ (trace_of ops n (ops.times b e) ≡ ops.one)
           → (value_at ops t e ≡ ops.zero) ⊎ (value_at ops t e ≡ ops.one)
@@ -111,15 +106,15 @@ module _ {A : Type 0} (ops : Ops A) (ring : IsRing ops) (bits_of : A → ℕ) (n
     -- the parts of a set of roots by it
     pub alike_in_part_of : IsAlike ops bits_of n (j + 1) (part_of ops bits_of t es)
     alike_in_part_of =
-        alike_in_part ops bits_of n n numbered j b is t (λ e. nat_eq (bits_of (value_at ops t e)) 1) es (traced_of f table b t es frobenius roots same) (told_of_traces f table b t es frobenius roots same) alike
+        alike_in_part ops bits_of n n numbered j b is t (λ e. nat_eq (bits_of (value_at ops t e)) 1) es (traced_of ops ring f n table b t es frobenius roots same) (told_of_traces f table b t es frobenius roots same) alike
 
     pub alike_in_others_of : IsAlike ops bits_of n (j + 1) (others_of ops bits_of t es)
     alike_in_others_of =
-        alike_in_others ops bits_of n n numbered j b is t (λ e. nat_eq (bits_of (value_at ops t e)) 1) es (traced_of f table b t es frobenius roots same) (told_of_traces f table b t es frobenius roots same) alike
+        alike_in_others ops bits_of n n numbered j b is t (λ e. nat_eq (bits_of (value_at ops t e)) 1) es (traced_of ops ring f n table b t es frobenius roots same) (told_of_traces f table b t es frobenius roots same) alike
 
     -- a set that it doesn't part: the polynomial is one element alone
     pub alike_unparted : (c : A) → Same ops t (c ∷ []) → IsAlike ops bits_of n (j + 1) es
     alike_unparted c constant =
         alike_more ops bits_of n n numbered j b c es is
-        (λ i d lt. sym (traced_of f table b t es frobenius roots same i d lt) ∙ value_at-same ops ring t (c ∷ []) (get_or es i d) constant ∙ value_at-constant ops ring c (get_or es i d))
+        (λ i d lt. sym (traced_of ops ring f n table b t es frobenius roots same i d lt) ∙ value_at-same ops ring t (c ∷ []) (get_or es i d) constant ∙ value_at-constant ops ring c (get_or es i d))
         alike

@@ -1,5 +1,6 @@
 -- Values of trace polynomials, and what a table of remainders of x, x ^ 2, x ^ 4, .. says of the roots.
 use Rattle.std.proofs.Common.{◌≡◌, ℕ, zero, suc, ◌+◌, ◌^◌, ◌<◌, ◌≤◌, List, [], ◌∷◌, length, get_or, refl, sym, ap, ◌∙◌, arith, add-one, replicate}
+use Rattle.std.specs.List.{All}
 use Rattle.std.proofs.lemmas.List.{length-map}
 use Rattle.sketch_rules.specs.Ops.{Ops, IsRing, power}
 use Rattle.sketch_rules.specs.Fields.{conjugate, trace_of, with_multiple}
@@ -50,12 +51,12 @@ module _ {A : Type 0} (ops : Ops A) (ring : IsRing ops) where
       ∙ ap (ops.times (conjugate ops m b)) (value_at-frobenius f n table e frobenius root m (omega arith))
       ∙ sym (conjugate-times ops ring m b e))
 
-  -- the same for any list of its coefficients
-  pub trace_polynomial-same : (f : List A) (n : ℕ) (table : List (List A)) (b e : A) (t : List A) → IsFrobeniusTable ops f n table → IsRoot ops f e
-      → Same ops t (trace_polynomial ops b n table) → value_at ops t e ≡ trace_of ops n (ops.times b e)
-  trace_polynomial-same f n table b e t frobenius root same =
-      value_at-same ops ring t (trace_polynomial ops b n table) e same
-      ∙ trace_polynomial-value f n table b e frobenius root n (omega arith)
+  -- the same at each of some roots, for any list that is the polynomial
+  pub traced_of : (f : List A) (n : ℕ) (table : List (List A)) (b : A) (t es : List A) → IsFrobeniusTable ops f n table → All (IsRoot ops f) es → Same ops t (trace_polynomial ops b n table)
+      → All (λ e. value_at ops t e ≡ trace_of ops n (ops.times b e)) es
+  traced_of f n table b t es frobenius roots same i d lt =
+      value_at-same ops ring t (trace_polynomial ops b n table) (get_or es i d) same
+      ∙ trace_polynomial-value f n table b (get_or es i d) frobenius (roots i d lt) n (omega arith)
 
   -- it has fewer coefficients than f
   pub trace_polynomial-length : (f : List A) (n : ℕ) (table : List (List A)) (b : A) → IsFrobeniusTable ops f n table
