@@ -10,11 +10,6 @@ module _ {A : Type 0} (ops : Ops A) where
   sums_of_none i zero = refl
   sums_of_none i (suc n) = ap (λ rest. ops.zero ∷ rest) (sums_of_none (i + 1) n)
 
-  pub length-sums_from : (es : List A) (i n : ℕ) → length (sums_from ops es i n) ≡ n
-  unfolding sums_from
-  length-sums_from es i zero = refl
-  length-sums_from es i (suc n) = ap suc (length-sums_from es (i + 1) n)
-
   -- a sum of powers grows by the power of an element that is put at the end
   pub power_sum-more : IsRing ops → (k : ℕ) (es : List A) (e : A) → ops.plus (power_sum ops k es) (power ops e k) ≡ power_sum ops k (es ++ e ∷ [])
   unfolding power_sum

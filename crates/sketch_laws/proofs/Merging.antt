@@ -122,7 +122,8 @@ unfolding power_sum
 power_sum-total width k [] = refl
 power_sum-total width k (e ∷ es) = ap (bit_xor (power (numbers width) e k)) (power_sum-total width k es)
 
-power_sum-difference : (width k : ℕ) (xs ys : List ℕ) → Apart xs → Apart ys → bit_xor (power_sum (numbers width) k xs) (power_sum (numbers width) k ys) ≡ power_sum (numbers width) k (difference xs ys)
+-- the sums of powers of two sets, added
+pub power_sum-difference : (width k : ℕ) (xs ys : List ℕ) → Apart xs → Apart ys → bit_xor (power_sum (numbers width) k xs) (power_sum (numbers width) k ys) ≡ power_sum (numbers width) k (difference xs ys)
 power_sum-difference width k xs ys h j =
     ap (λ z. bit_xor z (power_sum (numbers width) k ys)) (power_sum-total width k xs)
     ∙ ap (bit_xor (total (λ e. power (numbers width) e k) xs)) (power_sum-total width k ys)

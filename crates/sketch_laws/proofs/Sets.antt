@@ -1,5 +1,5 @@
 -- Which numbers a list has, of lists without repeats, and the difference of two of them.
-use Rattle.std.proofs.Common.{◌≡◌, ◌≢◌, ◌⊎◌, inl, inr, ℕ, zero, suc, ◌<◌, ◌==◌, Bool, true, false, not, ◌||◌, ◌&&◌, cond, List, [], ◌∷◌, ◌++◌, length, get_or, refl, sym, ap, ◌∙◌, arith}
+use Rattle.std.proofs.Common.{◌≡◌, ◌≢◌, ◌⊎◌, inl, inr, ℕ, zero, suc, ◌<◌, ◌==◌, Bool, true, false, not, ◌||◌, ◌&&◌, cond, List, [], ◌∷◌, ◌++◌, length, get_or, refl, sym, ap, ◌∙◌, arith, ◌+◌, ◌≤◌, length-append}
 use Rattle.std.specs.Prelude.{◌↔◌, nat_lt, filter}
 use Rattle.std.specs.List.{AllPairs, Contains, list_any}
 use Rattle.std.proofs.lemmas.Bool.{eqb-true, eq-eqb, cases_Bool, or_cases, or_parts, ltb-true}
@@ -164,7 +164,7 @@ Rises-ascending (x ∷ xs) h = Rises-placed x (ascending xs) (has-ascending xs x
 -- ---- the difference of two sets
 
 -- a number is in it where it is in one of them alone
-has-difference : (xs ys : List ℕ) (n : ℕ) → has (difference xs ys) n ≡ ((has xs n && not (has ys n)) || (has ys n && not (has xs n)))
+pub has-difference : (xs ys : List ℕ) (n : ℕ) → has (difference xs ys) n ≡ ((has xs n && not (has ys n)) || (has ys n && not (has xs n)))
 has-difference xs ys n =
     has-ascending (lacking xs ys ++ lacking ys xs) n
     ∙ has-append (lacking xs ys) (lacking ys xs) n
@@ -212,3 +212,47 @@ difference-holds xs ys n = (
     held_once : (Contains xs n × (¬ Contains ys n)) ⊎ (Contains ys n × (¬ Contains xs n)) → ((has xs n && not (has ys n)) || (has ys n && not (has xs n))) ≡ true
     held_once (inl h) = rw (has-from_Contains xs n h.0, has-from_none ys n h.1) refl
     held_once (inr h) = rw (has-from_Contains ys n h.0, has-from_none xs n h.1) refl
+
+-- what it has, one of the two has
+pub difference-from : (xs ys : List ℕ) (n : ℕ) → has (difference xs ys) n ≡ true → (has xs n ≡ true) ⊎ (has ys n ≡ true)
+difference-from xs ys n held = one (has xs n) (has ys n) (sym (has-difference xs ys n) ∙ held)
+  where
+    one : (a b : Bool) → ((a && not b) || (b && not a)) ≡ true → (a ≡ true) ⊎ (b ≡ true)
+    one true b e = inl refl
+    one false true e = inr refl
+    one false false e = inl e
+
+-- where it is empty, both lists have the same numbers
+pub same_where_no_difference : (xs ys : List ℕ) → difference xs ys ≡ [] → (n : ℕ) → has xs n ≡ has ys n
+same_where_no_difference xs ys none n =
+    both (has xs n) (has ys n) (sym (has-difference xs ys n) ∙ ap (λ ds. has ds n) none)
+  where
+    both : (a b : Bool) → ((a && not b) || (b && not a)) ≡ false → a ≡ b
+    both true true e = refl
+    both true false e = e
+    both false true e = sym e
+    both false false e = refl
+
+-- ---- how many numbers it has
+
+filter_within : (t : ℕ → Bool) (xs : List ℕ) → length (filter t xs) ≤ length xs
+filter_within t [] = omega arith
+filter_within t (x ∷ xs) = let rest = filter_within t xs in elim (t x) as (λ b. length (cond b (x ∷ filter t xs) (filter t xs)) ≤ suc (length xs)) [ true ↦ omega arith | false ↦ omega arith ]
+
+length-placed : (x : ℕ) (ys : List ℕ) → length (placed x ys) ≡ suc (length ys)
+unfolding placed
+length-placed x [] = refl
+length-placed x (y ∷ ys) = elim (nat_lt x y) as (λ b. length (cond b (x ∷ y ∷ ys) (y ∷ placed x ys)) ≡ suc (suc (length ys))) [
+  | true ↦ refl
+  | false ↦ ap suc (length-placed x ys)
+]
+
+length-ascending : (xs : List ℕ) → length (ascending xs) ≡ length xs
+unfolding ascending
+length-ascending [] = refl
+length-ascending (x ∷ xs) = length-placed x (ascending xs) ∙ ap suc (length-ascending xs)
+
+-- no more than both lists together
+pub difference_within : (xs ys : List ℕ) → length (difference xs ys) ≤ length xs + length ys
+difference_within xs ys =
+    omega (arith, length-ascending (lacking xs ys ++ lacking ys xs), length-append (lacking xs ys) (lacking ys xs), filter_within (λ x. not (has ys x)) xs, filter_within (λ y. not (has xs y)) ys)

@@ -1,7 +1,7 @@
 -- Sums of weighted powers: as many of them as there are elements, all zero, leave no weight.
 use Rattle.std.proofs.Common.{◌≡◌, ◌≢◌, ◌⊎◌, inl, inr, ℕ, zero, suc, ◌<◌, List, [], ◌∷◌, length, get_or, refl, sym, ap, ◌∙◌, arith}
 use Rattle.std.specs.List.{AllPairs}
-use Rattle.sketch_rules.specs.Ops.{Ops, IsRing, power}
+use Rattle.sketch_rules.specs.Ops.{Ops, IsRing, power, power_sum}
 use Rattle.sketch_laws.proofs.RingFacts.{zero_plus, times_zero, zero_times, distributes_left, plus_swap, same_of_sum}
 
 module _ {A : Type 0} (ops : Ops A) (ring : IsRing ops) where
@@ -100,3 +100,11 @@ module _ {A : Type 0} (ops : Ops A) (ring : IsRing ops) where
   lone_weight no_zero_divisor w (x ∷ xs) differ none = each_weight w x xs (none 0 (omega arith))
       (λ i d lt. other_weight no_zero_divisor w x (get_or xs i d) (differ 0 (suc i) d (omega arith) (omega arith))
       (lone_weight no_zero_divisor (moved w x) xs (λ i j d below within. differ (suc i) (suc j) d (omega arith) (omega arith)) (rest_sums w x xs none) i d lt))
+
+  -- each element with itself as its weight
+  pub weighted-own : (k : ℕ) (xs : List A) → weighted (λ x. x) k xs ≡ power_sum ops (suc k) xs
+  unfolding weighted power_sum power
+  weighted-own k [] = refl
+  weighted-own k (x ∷ xs) =
+      ap (λ z. ops.plus z (weighted (λ y. y) k xs)) (ring.times_comm x (power ops x k))
+      ∙ ap (ops.plus (ops.times (power ops x k) x)) (weighted-own k xs)

@@ -5,7 +5,7 @@ use Rattle.sketch_rules.specs.Ops.{sketch_by}
 use Rattle.sketch_rules.specs.Sketches.{sketch_of}
 use Rattle.field_core.specs.declared.gf32.Gf32.{Gf32}
 use Rattle.field_core.specs.Gf32.{bits_of, numbered, ops}
-use Rattle.sketch_core.proofs.Numbers.{sketch_by-numbers}
+use Rattle.sketch_laws.proofs.SketchNumbers.{sketch_by-numbers}
 use Rattle.text_rules.specs.Elements.{set_in}
 use Rattle.erlay_cli.specs.Answers.{Answer, Reports, made, sketched}
 use Rattle.erlay_cli.proofs.Sets.{apart, nonzero}

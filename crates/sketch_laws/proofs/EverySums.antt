@@ -1,0 +1,123 @@
+-- The sums of all powers, out of those of the odd powers.
+use Rattle.std.proofs.Common.{◌≡◌, ◌⊎◌, inl, inr, ℕ, zero, suc, ◌+◌, ◌*◌, ◌/◌, ◌<◌, ◌≤◌, List, [], ◌∷◌, length, get_or, refl, sym, ap, ◌∙◌, arith}
+use Rattle.std.proofs.lemmas.List.{ext_get_or}
+use Rattle.sketch_rules.specs.Ops.{Ops, IsRing, IsAllSums, power, power_sum, sums_from, sketch_by, every_sum}
+use Rattle.sketch_laws.proofs.RingFacts.{zero_times, square_plus}
+use Rattle.sketch_laws.proofs.Conjugates.{power-plus}
+
+-- a number is even or odd
+half : (p : ℕ) → (j : ℕ) × ((p ≡ 2 * j) ⊎ (p ≡ 2 * j + 1))
+half p = (p / 2, parts)
+  where
+    parts : (p ≡ 2 * (p / 2)) ⊎ (p ≡ 2 * (p / 2) + 1)
+    parts = grind arith
+
+module _ {A : Type 0} (ops : Ops A) where
+  pub length-sums_from : (es : List A) (i n : ℕ) → length (sums_from ops es i n) ≡ n
+  unfolding sums_from
+  length-sums_from es i zero = refl
+  length-sums_from es i (suc n) = ap suc (length-sums_from es (i + 1) n)
+
+  pub length-every_sum : (es : List A) (k n : ℕ) → length (every_sum ops es k n) ≡ n
+  unfolding every_sum
+  length-every_sum es k zero = refl
+  length-every_sum es k (suc n) = ap suc (length-every_sum es (k + 1) n)
+
+  -- the sum at place j
+  pub get_or-sums_from : (es : List A) (i n j : ℕ) (d : A) → j < n → get_or (sums_from ops es i n) j d ≡ power_sum ops (2 * (i + j) + 1) es
+  unfolding sums_from
+  get_or-sums_from es i zero j d lt = absurd (omega arith)
+  get_or-sums_from es i (suc n) zero d lt = ap (λ k. power_sum ops k es) (omega arith)
+  get_or-sums_from es i (suc n) (suc j) d lt =
+      get_or-sums_from es (i + 1) n j d (omega arith) ∙ ap (λ k. power_sum ops k es) (omega arith)
+
+  pub get_or-every_sum : (es : List A) (k n j : ℕ) (d : A) → j < n → get_or (every_sum ops es k n) j d ≡ power_sum ops (k + j) es
+  unfolding every_sum
+  get_or-every_sum es k zero j d lt = absurd (omega arith)
+  get_or-every_sum es k (suc n) zero d lt = ap (λ z. power_sum ops z es) (omega arith)
+  get_or-every_sum es k (suc n) (suc j) d lt =
+      get_or-every_sum es (k + 1) n j d (omega arith) ∙ ap (λ z. power_sum ops z es) (omega arith)
+
+  -- two lists of all sums are the same up to place n
+  same_places : (m s t : List A) → IsAllSums ops m s → IsAllSums ops m t → (n p : ℕ) → p < n → p < 2 * length m → get_or s p ops.zero ≡ get_or t p ops.zero
+  same_places m s t first second zero p lt within = absurd (omega arith)
+  same_places m s t first second (suc n) p lt within =
+      let parts = half p in
+      let j : ℕ = parts.0 in
+      elim parts.1 [
+        | inl even ↦ ap (λ z. get_or s z ops.zero) even ∙ first.odd j (omega arith) ∙ sym (second.odd j (omega arith)) ∙ ap (λ z. get_or t z ops.zero) (sym even)
+        | inr odd ↦
+            ap (λ z. get_or s z ops.zero) odd
+            ∙ first.even j (omega arith)
+            ∙ ap (λ z. ops.times z z) (same_places m s t first second n j (omega arith) (omega arith))
+            ∙ sym (second.even j (omega arith))
+            ∙ ap (λ z. get_or t z ops.zero) (sym odd)
+      ]
+
+  -- there is one list of all sums
+  pub all_sums_same : (m s t : List A) → IsAllSums ops m s → IsAllSums ops m t → s ≡ t
+  all_sums_same m s t first second =
+      ext_get_or ops.zero s t (first.size ∙ sym second.size)
+      (λ p lt. same_places m s t first second (suc p) p (omega arith) (omega (arith, first.size)))
+
+  module _ (ring : IsRing ops) where
+    -- the power by an even number is a square
+    pub power-twice : (e : A) (k : ℕ) → power ops e (2 * k) ≡ ops.times (power ops e k) (power ops e k)
+    power-twice e k = let twice : 2 * k ≡ k + k = omega arith in rw twice (power-plus ops ring e k k)
+
+    -- the sum of even powers is the square of the sum of the powers by half
+    pub power_sum-twice : (k : ℕ) (es : List A) → power_sum ops (2 * k) es ≡ ops.times (power_sum ops k es) (power_sum ops k es)
+    unfolding power_sum
+    power_sum-twice k [] = sym (zero_times ops ring ops.zero)
+    power_sum-twice k (e ∷ es) =
+        ap (λ z. ops.plus z (power_sum ops (2 * k) es)) (power-twice e k)
+        ∙ ap (ops.plus (ops.times (power ops e k) (power ops e k))) (power_sum-twice k es)
+        ∙ sym (square_plus ops ring (power ops e k) (power_sum ops k es))
+
+    -- the sums of all powers of a list of elements belong to its sketch
+    pub every_sum-is : (es : List A) (c : ℕ) → IsAllSums ops (sketch_by ops es c) (every_sum ops es 1 (2 * c))
+    every_sum-is es c = record {
+      size = length-every_sum es 1 (2 * c) ∙ ap (λ n. 2 * n) (sym (length-sums_from es 0 c));
+      odd = λ i lt. (
+          get_or-every_sum es 1 (2 * c) (2 * i) ops.zero (omega (arith, length-sums_from es 0 c))
+          ∙ ap (λ k. power_sum ops k es) (omega arith)
+          ∙ sym (get_or-sums_from es 0 c i ops.zero (omega (arith, length-sums_from es 0 c)))
+          );
+      even = λ i lt. (
+          get_or-every_sum es 1 (2 * c) (2 * i + 1) ops.zero (omega (arith, length-sums_from es 0 c))
+          ∙ ap (λ k. power_sum ops k es) (omega arith)
+          ∙ power_sum-twice (1 + i) es
+          ∙ ap (λ z. ops.times z z) (sym (get_or-every_sum es 1 (2 * c) i ops.zero (omega (arith, length-sums_from es 0 c))))
+          );
+    }
+
+    -- and no other list does
+    pub every_sum-only : (es : List A) (c : ℕ) (s : List A) → IsAllSums ops (sketch_by ops es c) s → s ≡ every_sum ops es 1 (2 * c)
+    every_sum-only es c s all = all_sums_same (sketch_by ops es c) s (every_sum ops es 1 (2 * c)) all (every_sum-is es c)
+
+    -- what they belong to is the sketch
+    pub sketch_of_every_sum : (m es : List A) → IsAllSums ops m (every_sum ops es 1 (2 * length m)) → m ≡ sketch_by ops es (length m)
+    sketch_of_every_sum m es all =
+        ext_get_or ops.zero m (sketch_by ops es (length m)) (sym (length-sums_from es 0 (length m)))
+        (λ i lt. sym (all.odd i lt)
+        ∙ get_or-every_sum es 1 (2 * length m) (2 * i) ops.zero (omega arith)
+        ∙ ap (λ k. power_sum ops k es) (omega arith)
+        ∙ sym (get_or-sums_from es 0 (length m) i ops.zero lt))
+
+    -- where the sums of odd powers below 2c are zero, so are those of all powers from 1 to 2c
+    all_sums_zero : (es : List A) (c : ℕ) → ((i : ℕ) → i < c → power_sum ops (2 * i + 1) es ≡ ops.zero) → (n k : ℕ) → k ≤ n → 0 < k → k ≤ 2 * c → power_sum ops k es ≡ ops.zero
+    all_sums_zero es c none zero k le some within = absurd (omega arith)
+    all_sums_zero es c none (suc n) k le some within =
+        let parts = half k in
+        let j : ℕ = parts.0 in
+        elim parts.1 [
+          | inl even ↦
+              ap (λ z. power_sum ops z es) even
+              ∙ power_sum-twice j es
+              ∙ ap (λ z. ops.times z z) (all_sums_zero es c none n j (omega arith) (omega arith) (omega arith))
+              ∙ zero_times ops ring ops.zero
+          | inr odd ↦ ap (λ z. power_sum ops z es) odd ∙ none j (omega arith)
+        ]
+
+    pub sums_zero : (es : List A) (c : ℕ) → ((i : ℕ) → i < c → power_sum ops (2 * i + 1) es ≡ ops.zero) → (k : ℕ) → 0 < k → k ≤ 2 * c → power_sum ops k es ≡ ops.zero
+    sums_zero es c none k some within = all_sums_zero es c none k k (omega arith) some within
