@@ -1,8 +1,10 @@
 //! Sketches of sets of field elements: the sums of their odd powers.
 #![tactic(auto)]
 
+mod decoded;
 mod fault;
 mod sketch;
 
+pub use decoded::Decoded;
 pub use fault::SketchFault;
 pub use sketch::{MAX_CAPACITY, Sketch};
