@@ -1,0 +1,4 @@
+pub mod Applied
+pub mod Monic
+pub mod Massey
+pub mod Steps

@@ -1,0 +1,55 @@
+-- A recurrence c_1, .., c_L as the monic polynomial c_L, .., c_1, 1.
+use Rattle.std.proofs.Common.{◌≡◌, ℕ, zero, suc, ◌+◌, ◌<◌, List, [], ◌∷◌, ◌++◌, length, drop, reverse, refl, sym, ap, ◌∙◌, arith}
+use Rattle.std.proofs.lemmas.List.{drop-drop, get_or_push, length-reverse}
+use Rattle.std.proofs.lemmas.Grind.{reverse_onto}
+use Rattle.sketch_rules.specs.Ops.{Ops, IsRing}
+use Rattle.sketch_rules.specs.Fields.{dot_of}
+use Rattle.poly_rules.specs.Polynomials.{coefficient, IsMonic}
+use Rattle.poly_rules.specs.Recurrences.{Recurs}
+use Rattle.sketch_laws.proofs.RingFacts.{zero_plus, one_times, same_of_sum}
+use Rattle.recurrence_laws.proofs.Applied.{dot_of-nil}
+
+module _ {A : Type 0} (ops : Ops A) (ring : IsRing ops) where
+  -- the monic form is monic, and its degree is the length
+  pub monic_form : (cs : List A) → IsMonic ops (length cs) (reverse (ops.one ∷ cs))
+  monic_form cs = record {
+    size = omega (arith, length-reverse (ops.one ∷ cs));
+    top = ap (λ z. coefficient ops z (length cs)) (reverse_onto cs ops.one []) ∙ get_or_push (reverse cs) ops.one ops.zero (length cs) (length-reverse cs);
+  }
+
+  -- the factors of the second list meet the items past the first's
+  dot_of-append : (f g s : List A) → dot_of ops (f ++ g) s ≡ ops.plus (dot_of ops f s) (dot_of ops g (drop (length f) s))
+  unfolding dot_of
+  dot_of-append [] g s = sym (zero_plus ops ring (dot_of ops g s))
+  dot_of-append (a ∷ f) g [] = sym (ring.plus_zero ops.zero) ∙ ap (ops.plus ops.zero) (sym (dot_of-nil ops g))
+  dot_of-append (a ∷ f) g (x ∷ s) =
+      ap (ops.plus (ops.times a x)) (dot_of-append f g s)
+      ∙ sym (ring.plus_assoc (ops.times a x) (dot_of ops f s) (dot_of ops g (drop (length f) s)))
+
+  dot_of-one : (i : ℕ) (s : List A) → dot_of ops (ops.one ∷ []) (drop i s) ≡ coefficient ops s i
+  unfolding dot_of
+  dot_of-one zero [] = refl
+  dot_of-one zero (x ∷ s) = ring.plus_zero (ops.times ops.one x) ∙ one_times ops ring x
+  dot_of-one (suc i) [] = refl
+  dot_of-one (suc i) (x ∷ s) = dot_of-one i s
+
+  -- what the monic form gives: the sum of what the recurrence foretells and of what stands there
+  dot_of-monic : (cs s : List A) (k : ℕ) → dot_of ops (reverse (ops.one ∷ cs)) (drop k s) ≡ ops.plus (dot_of ops (reverse cs) (drop k s)) (coefficient ops s (k + length cs))
+  dot_of-monic cs s k =
+      ap (λ z. dot_of ops z (drop k s)) (reverse_onto cs ops.one [])
+      ∙ dot_of-append (reverse cs) (ops.one ∷ []) (drop k s)
+      ∙ ap (λ z. ops.plus (dot_of ops (reverse cs) (drop k s)) (dot_of ops (ops.one ∷ []) (drop z (drop k s)))) (length-reverse cs)
+      ∙ ap (ops.plus (dot_of ops (reverse cs) (drop k s))) (ap (dot_of ops (ops.one ∷ [])) (drop-drop (length cs) k s) ∙ dot_of-one (k + length cs) s)
+
+  -- where the recurrence holds, the monic form gives zero
+  pub monic_from_recurs : (cs s : List A) → Recurs ops cs s → (k : ℕ) → k + length cs < length s → dot_of ops (reverse (ops.one ∷ cs)) (drop k s) ≡ ops.zero
+  monic_from_recurs cs s recurs k lt =
+      dot_of-monic cs s k
+      ∙ ap (ops.plus (dot_of ops (reverse cs) (drop k s))) (recurs.each k lt)
+      ∙ ring.plus_self (dot_of ops (reverse cs) (drop k s))
+
+  -- and the other way about
+  pub recurs_from_monic : (cs s : List A) → ((k : ℕ) → k + length cs < length s → dot_of ops (reverse (ops.one ∷ cs)) (drop k s) ≡ ops.zero) → Recurs ops cs s
+  recurs_from_monic cs s zeros = record {
+    each = λ k lt. sym (same_of_sum ops ring (dot_of ops (reverse cs) (drop k s)) (coefficient ops s (k + length cs)) (sym (dot_of-monic cs s k) ∙ zeros k lt));
+  }

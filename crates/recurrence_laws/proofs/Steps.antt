@@ -1,0 +1,204 @@
+-- One item more in the search for the shortest recurrence, and what stands at the end.
+use Rattle.std.proofs.Common.{◌≡◌, ◌≢◌, ◌⊎◌, inl, inr, ℕ, ◌+◌, ◌-◌, ◌<◌, ◌≤◌, List, [], ◌∷◌, ◌++◌, length, drop, replicate, reverse, refl, sym, ap, subst, ◌∙◌, arith}
+use Rattle.std.proofs.lemmas.List.{drop-drop, get_or_past, get_or-append-add, length-append, length-map, length-replicate}
+use Rattle.sketch_rules.specs.Ops.{Ops, IsRing}
+use Rattle.sketch_rules.specs.Fields.{dot_of}
+use Rattle.poly_rules.specs.Polynomials.{coefficient, degree, IsMonic, sum_of, scaled}
+use Rattle.poly_rules.specs.Recurrences.{Recurs, IsShortest}
+use Rattle.sketch_laws.proofs.RingFacts.{times_zero, zero_times}
+use Rattle.poly_laws.proofs.Sums.{coefficient-sum}
+use Rattle.poly_laws.proofs.Division.{length-sum}
+use Rattle.recurrence_laws.specs.Solving.{IsSolving}
+use Rattle.recurrence_laws.proofs.Applied.{dot_of-sum, dot_of-scaled, dot_of-shifts}
+use Rattle.recurrence_laws.proofs.Monic.{monic_form, monic_from_recurs, recurs_from_monic}
+use Rattle.recurrence_laws.proofs.Massey.{holds_on}
+
+module _ {A : Type 0} (ops : Ops A) (ring : IsRing ops) where
+  -- ---- what the sums give
+
+  -- a polynomial, and k times another that stands m places further up
+  dot_of-added : (k : A) (m j : ℕ) (f g s : List A) → dot_of ops (sum_of ops f (replicate m ops.zero ++ scaled ops k g)) (drop j s) ≡ ops.plus (dot_of ops f (drop j s)) (ops.times k (dot_of ops g (drop (j + m) s)))
+  dot_of-added k m j f g s =
+      dot_of-sum ops ring f (replicate m ops.zero ++ scaled ops k g) (drop j s)
+      ∙ ap (ops.plus (dot_of ops f (drop j s)))
+      (dot_of-shifts ops ring m (scaled ops k g) (drop j s)
+      ∙ dot_of-scaled ops ring k g (drop m (drop j s))
+      ∙ ap (λ z. ops.times k (dot_of ops g z)) (drop-drop m j s))
+
+  -- a polynomial that is put m places further up, and k times another
+  dot_of-raised : (k : A) (m j : ℕ) (f g s : List A) → dot_of ops (sum_of ops (replicate m ops.zero ++ f) (scaled ops k g)) (drop j s) ≡ ops.plus (dot_of ops f (drop (j + m) s)) (ops.times k (dot_of ops g (drop j s)))
+  dot_of-raised k m j f g s =
+      dot_of-sum ops ring (replicate m ops.zero ++ f) (scaled ops k g) (drop j s)
+      ∙ ap (λ z. ops.plus z (dot_of ops (scaled ops k g) (drop j s))) (dot_of-shifts ops ring m f (drop j s) ∙ ap (dot_of ops f) (drop-drop m j s))
+      ∙ ap (ops.plus (dot_of ops f (drop (j + m) s))) (dot_of-scaled ops ring k g (drop j s))
+
+  both_zero : (k a b : A) → a ≡ ops.zero → b ≡ ops.zero → ops.plus a (ops.times k b) ≡ ops.zero
+  both_zero k a b zero_a zero_b =
+      ap (λ z. ops.plus z (ops.times k b)) zero_a
+      ∙ ap (λ z. ops.plus ops.zero (ops.times k z)) zero_b
+      ∙ ap (ops.plus ops.zero) (times_zero ops ring k)
+      ∙ ring.plus_zero ops.zero
+
+  -- d and d / b times b
+  cancelled : (d b inverse : A) → ops.times b inverse ≡ ops.one → ops.plus d (ops.times (ops.times d inverse) b) ≡ ops.zero
+  cancelled d b inverse is =
+      ap (ops.plus d) (ring.times_assoc d inverse b ∙ ap (ops.times d) (ring.times_comm inverse b ∙ is) ∙ ring.times_one d) ∙ ring.plus_self d
+
+  -- ---- the highest coefficient
+
+  -- a sum with a shorter polynomial stays monic
+  monic_sum : (n : ℕ) (f g : List A) → IsMonic ops n f → length g ≤ n → IsMonic ops n (sum_of ops f g)
+  monic_sum n f g monic short = record {
+    size = length-sum ops f g (omega (arith, monic.size)) ∙ monic.size;
+    top =
+        coefficient-sum ops ring f g n
+        ∙ ap (ops.plus (coefficient ops f n)) (get_or_past g n ops.zero short)
+        ∙ ring.plus_zero (coefficient ops f n)
+        ∙ monic.top;
+  }
+
+  -- and so does one that is put further up
+  monic_raised : (m n : ℕ) (f : List A) → IsMonic ops n f → IsMonic ops (m + n) (replicate m ops.zero ++ f)
+  monic_raised m n f monic = record {
+    size = omega (arith, length-append (replicate m ops.zero) f, length-replicate m ops.zero, monic.size);
+    top =
+        ap (λ z. coefficient ops (replicate m ops.zero ++ f) (z + n)) (sym (length-replicate m ops.zero))
+        ∙ get_or-append-add (replicate m ops.zero) f n ops.zero
+        ∙ monic.top;
+  }
+
+  -- ---- the search
+
+  -- before the first item
+  pub solving_none : (s : List A) → IsSolving ops s 0 (ops.one ∷ []) (ops.one ∷ []) ops.one
+  solving_none s = record {
+    monic = record { size = refl; top = refl };
+    holds = λ k lt. absurd (omega arith);
+    some = omega arith;
+    room = omega arith;
+    saved_holds = λ k lt. absurd (omega arith);
+    saved_fails = λ k e. absurd (omega arith);
+  }
+
+  meets : (i j : ℕ) → i < j + 1 → (i < j) ⊎ (i ≡ j)
+  meets i j lt = grind arith
+
+  -- an item that is as the recurrence foretells
+  pub solving_kept : (s current saved : List A) (n : ℕ) (inverse : A) → IsSolving ops s n current saved inverse → dot_of ops current (drop (n - degree current) s) ≡ ops.zero
+      → IsSolving ops s (n + 1) current saved inverse
+  solving_kept s current saved n inverse so_far foretold = record {
+    monic = so_far.monic;
+    holds = λ k lt. at k (meets (k + degree current) n lt);
+    some = so_far.some;
+    room = omega (arith, so_far.room);
+    saved_holds = so_far.saved_holds;
+    saved_fails = so_far.saved_fails;
+  }
+    where
+      at : (k : ℕ) → (k + degree current < n) ⊎ (k + degree current ≡ n) → dot_of ops current (drop k s) ≡ ops.zero
+      at k (inl lt) = so_far.holds k lt
+      at k (inr e) = let place : k ≡ n - degree current = omega arith in ap (λ z. dot_of ops current (drop z s)) place ∙ foretold
+
+  -- an item that isn't, where the recurrence is long enough: a multiple of the saved one mends it
+  pub solving_mended : (s current saved : List A) (n : ℕ) (d inverse : A) → IsSolving ops s n current saved inverse → d ≡ dot_of ops current (drop (n - degree current) s) → n - degree current < degree current
+      → IsSolving ops s (n + 1) (sum_of ops current (replicate (degree current - (n - degree current) - 1) ops.zero ++ scaled ops (ops.times d inverse) saved)) saved inverse
+  solving_mended s current saved n d inverse so_far is long = record {
+    monic = subst (λ z. IsMonic ops z mended) (sym same_degree) monic;
+    holds = λ k lt. at k (meets (k + degree current) n (omega (arith, same_degree)));
+    some = so_far.some;
+    room = omega (arith, so_far.room, same_degree);
+    saved_holds = λ k lt. so_far.saved_holds k (omega (arith, same_degree));
+    saved_fails = λ k e. so_far.saved_fails k (omega (arith, same_degree));
+  }
+    where
+      shift : ℕ
+      shift = degree current - (n - degree current) - 1
+
+      mended : List A
+      mended = sum_of ops current (replicate shift ops.zero ++ scaled ops (ops.times d inverse) saved)
+
+      short : length (replicate shift ops.zero ++ scaled ops (ops.times d inverse) saved) ≤ degree current
+      short = omega (arith, length-append (replicate shift ops.zero) (scaled ops (ops.times d inverse) saved), length-replicate shift ops.zero, length-map saved (ops.times (ops.times d inverse)), so_far.room, so_far.some)
+
+      monic : IsMonic ops (degree current) mended
+      monic = monic_sum (degree current) current (replicate shift ops.zero ++ scaled ops (ops.times d inverse) saved) so_far.monic short
+
+      same_degree : degree mended ≡ degree current
+      same_degree = omega (arith, monic.size)
+
+      at : (k : ℕ) → (k + degree current < n) ⊎ (k + degree current ≡ n) → dot_of ops mended (drop k s) ≡ ops.zero
+      at k (inl lt) =
+          dot_of-added (ops.times d inverse) shift k current saved s
+          ∙ both_zero (ops.times d inverse) (dot_of ops current (drop k s)) (dot_of ops saved (drop (k + shift) s)) (so_far.holds k lt) (so_far.saved_holds (k + shift) (omega arith))
+      at k (inr e) =
+          let place : k ≡ n - degree current = omega arith in
+          dot_of-added (ops.times d inverse) shift k current saved s
+          ∙ ap (λ z. ops.plus z (ops.times (ops.times d inverse) (dot_of ops saved (drop (k + shift) s)))) (ap (λ z. dot_of ops current (drop z s)) place ∙ sym is)
+          ∙ cancelled d (dot_of ops saved (drop (k + shift) s)) inverse (so_far.saved_fails (k + shift) (omega arith))
+
+  -- and where it isn't: it is put further up, and what it was is saved
+  pub solving_grown : (s current saved : List A) (n : ℕ) (d inverse next : A) → IsSolving ops s n current saved inverse → d ≡ dot_of ops current (drop (n - degree current) s) → degree current ≤ n - degree current
+      → ops.times d next ≡ ops.one
+      → IsSolving ops s (n + 1) (sum_of ops (replicate (n - degree current - degree current + 1) ops.zero ++ current) (scaled ops (ops.times d inverse) saved)) current next
+  solving_grown s current saved n d inverse next so_far is short is_next = record {
+    monic = subst (λ z. IsMonic ops z grown) (sym new_degree) monic;
+    holds = λ k lt. at k (meets (k + 1) (degree current) (omega (arith, new_degree)));
+    some = omega (arith, so_far.monic.size);
+    room = omega (arith, so_far.room, new_degree);
+    saved_holds = λ k lt. so_far.holds k (omega (arith, new_degree));
+    saved_fails = λ k e. let place : k ≡ n - degree current = omega (arith, new_degree) in ap (λ z. ops.times (dot_of ops current (drop z s)) next) place ∙ ap (λ z. ops.times z next) (sym is) ∙ is_next;
+  }
+    where
+      shift : ℕ
+      shift = n - degree current - degree current + 1
+
+      grown : List A
+      grown = sum_of ops (replicate shift ops.zero ++ current) (scaled ops (ops.times d inverse) saved)
+
+      monic : IsMonic ops (shift + degree current) grown
+      monic =
+          monic_sum (shift + degree current) (replicate shift ops.zero ++ current) (scaled ops (ops.times d inverse) saved)
+          (monic_raised shift (degree current) current so_far.monic)
+          (omega (arith, length-map saved (ops.times (ops.times d inverse)), so_far.room, so_far.some))
+
+      new_degree : degree grown ≡ shift + degree current
+      new_degree = omega (arith, monic.size)
+
+      at : (k : ℕ) → (k + 1 < degree current) ⊎ (k + 1 ≡ degree current) → dot_of ops grown (drop k s) ≡ ops.zero
+      at k (inl lt) =
+          dot_of-raised (ops.times d inverse) shift k current saved s
+          ∙ both_zero (ops.times d inverse) (dot_of ops current (drop (k + shift) s)) (dot_of ops saved (drop k s)) (so_far.holds (k + shift) (omega arith)) (so_far.saved_holds k lt)
+      at k (inr e) =
+          let place : k + shift ≡ n - degree current = omega arith in
+          dot_of-raised (ops.times d inverse) shift k current saved s
+          ∙ ap (λ z. ops.plus z (ops.times (ops.times d inverse) (dot_of ops saved (drop k s)))) (ap (λ z. dot_of ops current (drop z s)) place ∙ sym is)
+          ∙ cancelled d (dot_of ops saved (drop k s)) inverse (so_far.saved_fails k e)
+
+  -- after the last item none is shorter: it would make the saved one hold where it failed
+  pub solved : (s current saved cs : List A) (inverse : A) → ops.one ≢ ops.zero → IsSolving ops s (length s) current saved inverse → current ≡ reverse (ops.one ∷ cs) → IsShortest ops cs s
+  solved s current saved cs inverse apart so_far is = record {
+    holds = recurs_from_monic ops ring cs s (λ k lt. ap (λ z. dot_of ops z (drop k s)) (sym is) ∙ so_far.holds k (omega (arith, same_degree)));
+    least = λ ds recurs. by_lengths ds recurs (cases (length cs) (length ds));
+  }
+    where
+      same_degree : degree current ≡ length cs
+      same_degree = omega (arith, ap length is, (monic_form ops ring cs).size)
+
+      cases : (i j : ℕ) → (i ≤ j) ⊎ (j < i)
+      cases i j = grind arith
+
+      by_lengths : (ds : List A) → Recurs ops ds s → (length cs ≤ length ds) ⊎ (length ds < length cs) → length cs ≤ length ds
+      by_lengths ds recurs (inl le) = le
+      by_lengths ds recurs (inr shorter) = absurd (apart (sym fails ∙ ap (λ z. ops.times z inverse) held ∙ zero_times ops ring inverse))
+        where
+          place : ℕ
+          place = length cs - 1 - length ds
+
+          fails : ops.times (dot_of ops saved (drop (place + length ds) s)) inverse ≡ ops.one
+          fails = so_far.saved_fails (place + length ds) (omega (arith, same_degree))
+
+          held : dot_of ops saved (drop (place + length ds) s) ≡ ops.zero
+          held =
+              holds_on ops ring saved (reverse (ops.one ∷ ds)) s (length ds) place (monic_form ops ring ds)
+              (λ i lt. so_far.saved_holds (place + i) (omega (arith, same_degree)))
+              (λ i lt. monic_from_recurs ops ring ds s recurs (place + i) (omega (arith, same_degree, so_far.room)))
