@@ -1,4 +1,5 @@
 pub mod Applied
 pub mod Monic
 pub mod Massey
+pub mod Shortest
 pub mod Steps

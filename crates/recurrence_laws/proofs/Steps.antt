@@ -1,17 +1,14 @@
--- One item more in the search for the shortest recurrence, and what stands at the end.
-use Rattle.std.proofs.Common.{◌≡◌, ◌≢◌, ◌⊎◌, inl, inr, ℕ, ◌+◌, ◌-◌, ◌<◌, ◌≤◌, List, [], ◌∷◌, ◌++◌, length, drop, replicate, reverse, refl, sym, ap, subst, ◌∙◌, arith}
+-- One item more in the search for the shortest recurrence.
+use Rattle.std.proofs.Common.{◌≡◌, ◌⊎◌, inl, inr, ℕ, ◌+◌, ◌-◌, ◌<◌, ◌≤◌, List, [], ◌∷◌, ◌++◌, length, drop, replicate, refl, sym, ap, subst, ◌∙◌, arith}
 use Rattle.std.proofs.lemmas.List.{drop-drop, get_or_past, get_or-append-add, length-append, length-map, length-replicate}
 use Rattle.sketch_rules.specs.Ops.{Ops, IsRing}
 use Rattle.sketch_rules.specs.Fields.{dot_of}
 use Rattle.poly_rules.specs.Polynomials.{coefficient, degree, IsMonic, sum_of, scaled}
-use Rattle.poly_rules.specs.Recurrences.{Recurs, IsShortest}
-use Rattle.sketch_laws.proofs.RingFacts.{times_zero, zero_times}
+use Rattle.sketch_laws.proofs.RingFacts.{times_zero}
 use Rattle.poly_laws.proofs.Sums.{coefficient-sum}
 use Rattle.poly_laws.proofs.Division.{length-sum}
 use Rattle.recurrence_laws.specs.Solving.{IsSolving}
 use Rattle.recurrence_laws.proofs.Applied.{dot_of-sum, dot_of-scaled, dot_of-shifts}
-use Rattle.recurrence_laws.proofs.Monic.{monic_form, monic_from_recurs, recurs_from_monic}
-use Rattle.recurrence_laws.proofs.Massey.{holds_on}
 
 module _ {A : Type 0} (ops : Ops A) (ring : IsRing ops) where
   -- ---- what the sums give
@@ -173,32 +170,3 @@ module _ {A : Type 0} (ops : Ops A) (ring : IsRing ops) where
           dot_of-raised (ops.times d inverse) shift k current saved s
           ∙ ap (λ z. ops.plus z (ops.times (ops.times d inverse) (dot_of ops saved (drop k s)))) (ap (λ z. dot_of ops current (drop z s)) place ∙ sym is)
           ∙ cancelled d (dot_of ops saved (drop k s)) inverse (so_far.saved_fails k e)
-
-  -- after the last item none is shorter: it would make the saved one hold where it failed
-  pub solved : (s current saved cs : List A) (inverse : A) → ops.one ≢ ops.zero → IsSolving ops s (length s) current saved inverse → current ≡ reverse (ops.one ∷ cs) → IsShortest ops cs s
-  solved s current saved cs inverse apart so_far is = record {
-    holds = recurs_from_monic ops ring cs s (λ k lt. ap (λ z. dot_of ops z (drop k s)) (sym is) ∙ so_far.holds k (omega (arith, same_degree)));
-    least = λ ds recurs. by_lengths ds recurs (cases (length cs) (length ds));
-  }
-    where
-      same_degree : degree current ≡ length cs
-      same_degree = omega (arith, ap length is, (monic_form ops ring cs).size)
-
-      cases : (i j : ℕ) → (i ≤ j) ⊎ (j < i)
-      cases i j = grind arith
-
-      by_lengths : (ds : List A) → Recurs ops ds s → (length cs ≤ length ds) ⊎ (length ds < length cs) → length cs ≤ length ds
-      by_lengths ds recurs (inl le) = le
-      by_lengths ds recurs (inr shorter) = absurd (apart (sym fails ∙ ap (λ z. ops.times z inverse) held ∙ zero_times ops ring inverse))
-        where
-          place : ℕ
-          place = length cs - 1 - length ds
-
-          fails : ops.times (dot_of ops saved (drop (place + length ds) s)) inverse ≡ ops.one
-          fails = so_far.saved_fails (place + length ds) (omega (arith, same_degree))
-
-          held : dot_of ops saved (drop (place + length ds) s) ≡ ops.zero
-          held =
-              holds_on ops ring saved (reverse (ops.one ∷ ds)) s (length ds) place (monic_form ops ring ds)
-              (λ i lt. so_far.saved_holds (place + i) (omega (arith, same_degree)))
-              (λ i lt. monic_from_recurs ops ring ds s recurs (place + i) (omega (arith, same_degree, so_far.room)))
