@@ -1,0 +1,10 @@
+//! The shortest linear recurrence of a sequence over a field, by the algorithm of Berlekamp and Massey.
+#![tactic(auto)]
+
+mod locator;
+mod solver;
+#[cfg(test)]
+mod tests;
+
+pub use locator::{Locator, monic};
+pub use solver::shortest;
