@@ -33,14 +33,15 @@ struct Solver<F: Field> {
     saved: Vec<F>,
     /// Room for the next that is longer.
     spare: Vec<F>,
-    /// The inverse of the sum that `saved` gave where it failed.
+    /// The inverse of the discrepancy of `saved` where it failed.
     inverse: F,
 }
 
 impl<F: Field> Solver<F> {
     /// Nothing is read yet. There is room for the recurrences of `len` items, so that no later call takes memory.
     fn new(alloc: Global, len: usize) -> Result<Solver<F>, OutOfMemory>
-        ensures { IfOk result (λ solver. (s : List F) → IsSolving F.ops s 0 solver.current.items solver.saved.items solver.inverse) }
+        ensures { IfOk result (λ solver. (s : List F)
+            → IsSolving F.ops s 0 solver.current.items solver.saved.items solver.inverse) }
     {
         let room = len.saturating_add(1);
         let mut current = Vec::with_capacity(alloc, room)?;
@@ -56,25 +57,32 @@ impl<F: Field> Solver<F> {
         })
     }
 
-    /// Reads the item at place n.
+    /// Reads the item at place n. The discrepancy is what it and the current recurrence's foretelling differ by.
     fn read(&mut self, sums: &[F], n: usize) -> Result<(), OutOfMemory>
         requires inside { n < length sums.now }
-        requires so_far { IsSolving F.ops sums.now n self.old.current.items self.old.saved.items self.old.inverse }
-        ensures { IfOk result (λ _. IsSolving F.ops sums.now (n + 1) self.new.current.items self.new.saved.items self.new.inverse) }
+        requires so_far { IsSolving F.ops sums.now n
+            self.old.current.items self.old.saved.items self.old.inverse }
+        ensures { IfOk result (λ _. IsSolving F.ops sums.now (n + 1)
+            self.new.current.items self.new.saved.items self.new.inverse) }
     {
         let length = self.current.len() - 1;
         let start = n - length;
-        let off = F::dot(self.current.as_slice(), &sums[start..=n]);
-        if off == F::ZERO {
+        let discrepancy = F::dot(self.current.as_slice(), &sums[start..=n]);
+        if discrepancy == F::ZERO {
             return Ok(());
         }
-        let k = off.mul(self.inverse);
+        let factor = discrepancy.mul(self.inverse);
         if start < length {
             let shift = length - start - 1;
-            add_multiple(self.current.as_mut_slice(), shift, k, self.saved.as_slice());
+            add_multiple(
+                self.current.as_mut_slice(),
+                shift,
+                factor,
+                self.saved.as_slice(),
+            );
         } else {
-            self.grow(start - length + 1, k)?;
-            self.inverse = off.inv();
+            self.grow(start - length + 1, factor)?;
+            self.inverse = discrepancy.inv();
         }
         Ok(())
     }
@@ -82,7 +90,8 @@ impl<F: Field> Solver<F> {
     /// Puts the current recurrence `shift` places further up, adds `k` times the saved one, and saves what it was.
     fn grow(&mut self, shift: usize, k: F) -> Result<(), OutOfMemory>
         requires { length self.old.saved.items ≤ shift + length self.old.current.items }
-        ensures current { IfOk result (λ _. self.new.current.items ≡ sum_of F.ops (replicate shift F.ops.zero ++ self.old.current.items) (scaled F.ops k self.old.saved.items)) }
+        ensures current { IfOk result (λ _. self.new.current.items
+            ≡ sum_of F.ops (replicate shift F.ops.zero ++ self.old.current.items) (scaled F.ops k self.old.saved.items)) }
         ensures saved { IfOk result (λ _. self.new.saved.items ≡ self.old.current.items) }
     {
         self.spare.clear();
