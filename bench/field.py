@@ -1,5 +1,5 @@
 #!/usr/bin/env python3
-"""Times calls of the libraries: a field product, axpy, square_mod and frobenius_table.
+"""Times calls of the libraries: a field product, axpy, dot, square_mod and frobenius_table.
 
   bench/field.py [--keep]
 
@@ -79,6 +79,17 @@ fn main(rt: HostRuntime) -> io::Result<()> {
         }
         let time = nanoseconds(&rt, start)?;
         println!(rt; "axpy {time}")?;
+        let start = Instant::now(&rt)?;
+        for _ in 0..1000 {
+            if acc.len() == x.len() {
+                seen = seen.add(Gf32::dot(acc.as_slice(), x.as_slice()));
+            }
+            if let Some(first) = acc.first_mut() {
+                *first = seen;
+            }
+        }
+        let time = nanoseconds(&rt, start)?;
+        println!(rt; "dot {time}")?;
     }
     let mut top = elements(alloc, 1024)?;
     top.push(Gf32::new(1))?;
@@ -128,6 +139,7 @@ def main():
             best[name] = min(int(time), best.get(name, int(time)))
         print(f"product          {best['product'] / 1000 / 1024:8.2f} ns, in a chain")
         print(f"axpy             {best['axpy'] / 1000 / 1024:8.2f} ns an item, at length 1,024")
+        print(f"dot              {best['dot'] / 1000 / 1024:8.2f} ns an item, at length 1,024")
         print(f"square_mod       {best['square_mod'] / 1e6:8.2f} ms, at degree 1,024")
         print(f"frobenius_table  {best['frobenius_table'] / 1e6:8.2f} ms, at degree 1,024")
     finally:

@@ -1,4 +1,5 @@
 pub mod Nibbles
 pub mod OddPowers
 pub mod Reductions
+pub mod SumsOfProducts
 pub mod Windows

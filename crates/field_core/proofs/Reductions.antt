@@ -1,12 +1,12 @@
 -- The remainder by the modulus at 32 bits, by two folds.
 use Rattle.std.proofs.Common.{◌≡◌, ℕ, ◌*◌, ◌/◌, ◌%◌, ◌^◌, ◌<◌, bit_and, sym, ◌∙◌, ap, subst, arith, lit<, lit≤}
-use Rattle.std.specs.Int.Bits.{bit_xor}
+use Rattle.std.specs.Int.Bits.{bit_xor, xor_lt}
 use Rattle.std.proofs.Math.Nat.{mod-eq_of_lt, le_refl}
 use Rattle.std.proofs.lemmas.Nat.{and_mask, shr_below}
 use Rattle.sketch_rules.specs.Elements.{carryless_below, remainder}
 use Rattle.sketch_laws.specs.Rests.{IsRest}
 use Rattle.sketch_laws.proofs.Folds.{fold_once, fold_below, low_multiple}
-use Rattle.sketch_laws.proofs.Remainders.{rest_only, rest_trans, remainder-below, remainder_is_rest}
+use Rattle.sketch_laws.proofs.Remainders.{rest_only, rest_trans, rest_xor, remainder-below, remainder_is_rest}
 
 -- the multiple of h by the low terms of the modulus, by shifts of 64 bits
 abbrev shifted : ℕ → ℕ
@@ -45,3 +45,12 @@ folds-are p once twice fits first second =
     (remainder_is_rest 32 32 p (lit< tt))
     (folds-below p once twice fits first second)
     (remainder-below 32 32 p (lit< tt) fits)
+
+-- the remainder of an exclusive or
+pub remainder-xor : (p q : ℕ) → p < 2 ^ 64 → q < 2 ^ 64 → remainder 32 32 (bit_xor p q) ≡ bit_xor (remainder 32 32 p) (remainder 32 32 q)
+remainder-xor p q fits_p fits_q =
+    rest_only 32 (bit_xor p q) (remainder 32 32 (bit_xor p q)) (bit_xor (remainder 32 32 p) (remainder 32 32 q)) (lit< tt)
+    (remainder_is_rest 32 32 (bit_xor p q) (lit< tt))
+    (rest_xor 32 p (remainder 32 32 p) q (remainder 32 32 q) (remainder_is_rest 32 32 p (lit< tt)) (remainder_is_rest 32 32 q (lit< tt)))
+    (remainder-below 32 32 (bit_xor p q) (lit< tt) (xor_lt 64 p q fits_p fits_q))
+    (xor_lt 32 (remainder 32 32 p) (remainder 32 32 q) (remainder-below 32 32 p (lit< tt) fits_p) (remainder-below 32 32 q (lit< tt) fits_q))

@@ -33,7 +33,7 @@ fn multiples(a: u32) -> [u64; 16]
 }
 
 /// The product of two polynomials, by windows of 4 bits from the top.
-fn carryless(a: u32, b: u32) -> u64
+pub fn carryless(a: u32, b: u32) -> u64
     ensures { result ≡ carryless_below 32 a b }
 {
     let table = multiples(a);
@@ -55,7 +55,7 @@ fn folded(p: u64) -> u64
 }
 
 /// The remainder of `p` by the modulus.
-fn reduce(p: u64) -> u32
+pub fn reduce(p: u64) -> u32
     ensures { result ≡ remainder 32 32 p }
 {
     folded(folded(p)) as u32

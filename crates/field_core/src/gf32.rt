@@ -3,10 +3,11 @@
 ghost use Rattle.std.specs.Prelude.{◌≡◌, ℕ, ◌<◌, ◌^◌};
 
 use crate::Field;
-use crate::carryless::product;
+use crate::axpy::{axpy_by_multiples, axpy_by_products};
+use crate::carryless::{carryless, product, reduce};
 use crate::odd_powers::{add_by_multiples, add_by_products};
 
-/// From how many places on the multiples of the square are worth making.
+/// From how many places on the multiples of a factor are worth making.
 const MULTIPLES_PAY_FROM: usize = 16;
 
 /// An element of the field of 2 ^ 32 elements, modulo `x ^ 32 + x ^ 7 + x ^ 3 + x ^ 2 + 1`. Bit i is the coefficient
@@ -93,6 +94,23 @@ impl Field for Gf32 {
         Gf32 {
             bits: product(self.bits, b.bits),
         }
+    }
+
+    fn axpy(acc: &mut [Gf32], k: Gf32, x: &[Gf32]) {
+        if acc.len() < MULTIPLES_PAY_FROM {
+            axpy_by_products(acc, k, x)
+        } else {
+            axpy_by_multiples(acc, k, x)
+        }
+    }
+
+    // the carryless products are added up, and their sum is reduced once
+    fn dot(x: &[Gf32], y: &[Gf32]) -> Gf32 {
+        let mut sum: u64 = 0;
+        for i in 0..x.len() {
+            sum ^= carryless(x[i].bits, y[i].bits);
+        }
+        Gf32 { bits: reduce(sum) }
     }
 
     fn odd_powers_into(acc: &mut [Gf32], e: Gf32) {

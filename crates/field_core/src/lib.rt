@@ -1,6 +1,7 @@
 //! Finite fields of characteristic 2: what generic code asks of a field, and the field of 2 ^ 32 elements.
 #![tactic(auto)]
 
+mod axpy;
 mod carryless;
 mod field;
 mod gf32;
