@@ -8,8 +8,9 @@ pub mod Fields
 pub mod Folds
 pub mod Inverses
 pub mod Merging
-pub mod Numbers
 pub mod NumberedLists
+pub mod Numbers
+pub mod Parts
 pub mod PowersOfX
 pub mod Products
 pub mod Remainders
