@@ -1,2 +1,3 @@
+pub mod AllSums
 pub mod Sums
 pub mod Both

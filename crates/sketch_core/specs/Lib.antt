@@ -1,3 +1,3 @@
+pub mod Answered
 pub mod Refusals
 pub mod Sums
-pub mod Answered

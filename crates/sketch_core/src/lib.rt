@@ -4,6 +4,8 @@
 mod decoded;
 mod fault;
 mod sketch;
+#[cfg(test)]
+mod tests;
 
 pub use decoded::Decoded;
 pub use fault::SketchFault;

