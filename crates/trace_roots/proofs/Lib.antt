@@ -1,0 +1,9 @@
+mod Answering
+mod Ascending
+mod Equal
+mod Found
+mod Halving
+mod Parting
+mod Pushed
+mod Whole
+mod WindowSums

@@ -1,0 +1,15 @@
+//! The set that a sketch is of, found by splitting its sums by traces.
+#![tactic(auto)]
+
+mod check;
+mod decoding;
+mod members;
+mod part;
+mod splitting;
+#[cfg(test)]
+mod tests;
+mod traces;
+mod windows;
+
+pub use decoding::decode;
+pub use splitting::split;

@@ -1,0 +1,141 @@
+//! Parts of a set, told by their polynomials and their sums.
+
+ghost use Rattle.std.specs.Prelude.{◌≡◌, ℕ, ◌+◌, ◌*◌, ◌^◌, ◌≤◌, List, length, take, IfOk, IfSome, IsSome};
+ghost use Rattle.std.specs.List.{All};
+ghost use Rattle.sketch_rules.specs.Ops.{every_sum};
+ghost use Rattle.sketch_rules.specs.Fields.{trace_of};
+ghost use Rattle.poly_rules.specs.Polynomials.{degree, IsMonic, IsTrimmed, value_at};
+ghost use Rattle.poly_rules.specs.Roots.{with_roots};
+ghost use Rattle.splitting_laws.specs.Alike.{IsAlike};
+ghost use Rattle.trace_roots.specs.Parts.{Fits, IsSet, AreTraces, IsPart, AreSides, IsSmaller, IsSplit};
+
+use crate::traces::reduced;
+use crate::windows::{added, windows};
+use base_types::OutOfMemory;
+use bm_solver::{Locator, monic, shortest};
+use field_core::Field;
+use poly_ops::{Poly, extend_recurrence};
+use std::alloc::Global;
+
+/// A set that is still to be taken apart.
+#[derive(Drop)]
+pub struct Part<F: Field> {
+    /// The product of `z + e` over its members.
+    pub locator: Poly<F>,
+    /// `s_1, s_2, ..`, twice as many as there are members.
+    pub sums: Vec<F>,
+    /// The trace polynomials of the next places, modulo the locator.
+    pub traces: Vec<Poly<F>>,
+}
+
+/// The two parts of a set whose members have the traces 0 and 1, as the trace polynomial of the place tells them.
+pub fn halves<F: Field>(
+    alloc: Global,
+    part: &Part<F>,
+    trace: &Poly<F>,
+) -> Result<Option<(Part<F>, Part<F>)>, OutOfMemory>
+    requires fits { Fits F.ops part.now.locator part.now.sums.items part.now.traces.items }
+    requires lower { length trace.now ≤ degree part.now.locator }
+    requires apart { 2 ≤ length trace.now }
+    requires trimmed { IsTrimmed F.ops trace.now }
+    ensures first { IfOk result (λ r. IfSome r (λ p. Fits F.ops p.0.locator p.0.sums.items p.0.traces.items)) }
+    ensures second { IfOk result (λ r. IfSome r (λ p. Fits F.ops p.1.locator p.1.sums.items p.1.traces.items)) }
+    ensures found { (place : ℕ) (b : F) (es : List F) → F.bits_of b ≡ 2 ^ place → IsPart F.ops F.bits_of F.BITS (place + 1) es part.now.locator part.now.sums.items part.now.traces.items
+        → All (λ e. value_at F.ops trace.now e ≡ trace_of F.ops F.BITS (F.ops.times b e)) es → IfOk result IsSome }
+    ensures parts { (place : ℕ) (b : F) (es : List F) → F.bits_of b ≡ 2 ^ place → IsPart F.ops F.bits_of F.BITS (place + 1) es part.now.locator part.now.sums.items part.now.traces.items
+        → All (λ e. value_at F.ops trace.now e ≡ trace_of F.ops F.BITS (F.ops.times b e)) es → IsAlike F.ops F.bits_of F.BITS place es
+        → IfOk result (λ r. IfSome r (λ p. IsSplit F.ops F.bits_of F.BITS (place + 1) es p.0.locator p.0.sums.items p.0.traces.items p.1.locator p.1.sums.items p.1.traces.items)) }
+{
+    let sides = solved(alloc, part, trace)?;
+    if sides.inner.length() <= sides.outer.length() {
+        parted(alloc, part, &sides.inner, sides.inside.as_slice())
+    } else {
+        parted(alloc, part, &sides.outer, sides.outside.as_slice())
+    }
+}
+
+/// The sums of the members of trace 1 and of trace 0, as many of each as the set has members, and the shortest
+/// recurrences of both.
+#[derive(Drop)]
+struct Sides<F: Field> {
+    inside: Vec<F>,
+    outside: Vec<F>,
+    inner: Locator<F>,
+    outer: Locator<F>,
+}
+
+fn solved<F: Field>(alloc: Global, part: &Part<F>, trace: &Poly<F>) -> Result<Sides<F>, OutOfMemory>
+    requires fits { Fits F.ops part.now.locator part.now.sums.items part.now.traces.items }
+    requires lower { length trace.now ≤ degree part.now.locator }
+    ensures { IfOk result (λ s. AreSides F.ops trace.now part.now.sums.items (degree part.now.locator) s.inside.items s.outside.items s.inner s.outer) }
+{
+    let n = part.locator.coeffs().len() - 1;
+    let inside = windows(alloc, trace.coeffs(), part.sums.as_slice(), n)?;
+    let outside = added(alloc, inside.as_slice(), part.sums.as_slice())?;
+    let inner = shortest(alloc, inside.as_slice())?;
+    let outer = shortest(alloc, outside.as_slice())?;
+    Ok(Sides {
+        inside,
+        outside,
+        inner,
+        outer,
+    })
+}
+
+/// The half that the locator is of, which is the smaller one, and the other.
+fn parted<F: Field>(
+    alloc: Global,
+    part: &Part<F>,
+    smaller: &Locator<F>,
+    sums: &[F],
+) -> Result<Option<(Part<F>, Part<F>)>, OutOfMemory>
+    requires fits { Fits F.ops part.now.locator part.now.sums.items part.now.traces.items }
+    requires sums { length sums.now ≡ degree part.now.locator }
+    ensures first { IfOk result (λ r. IfSome r (λ p. Fits F.ops p.0.locator p.0.sums.items p.0.traces.items)) }
+    ensures second { IfOk result (λ r. IfSome r (λ p. Fits F.ops p.1.locator p.1.sums.items p.1.traces.items)) }
+    ensures found { (first : ℕ) (small large : List F) → IsSmaller F.ops F.bits_of F.BITS first small large part.now.sums.items part.now.traces.items sums.now smaller.now
+        → IfOk result IsSome }
+    ensures parts { (first : ℕ) (small large : List F) → IsSmaller F.ops F.bits_of F.BITS first small large part.now.sums.items part.now.traces.items sums.now smaller.now
+        → IfOk result (λ r. IfSome r (λ p. IsPart F.ops F.bits_of F.BITS first small p.0.locator p.0.sums.items p.0.traces.items
+        × IsPart F.ops F.bits_of F.BITS first large p.1.locator p.1.sums.items p.1.traces.items)) }
+{
+    let (n, size) = (sums.len(), smaller.length());
+    if size == 0 || n < size || n - size < size {
+        return Ok(None);
+    }
+    let f = monic(alloc, smaller)?;
+    let own = extend_recurrence(alloc, &f, sums, 2 * (n - size))?;
+    let rest = added(alloc, own.as_slice(), part.sums.as_slice())?;
+    let larger = shortest(alloc, rest.as_slice())?;
+    if larger.length() != n - size {
+        return Ok(None);
+    }
+    let g = monic(alloc, &larger)?;
+    let first = with_traces(alloc, f, own, part.traces.as_slice())?;
+    let second = with_traces(alloc, g, rest, part.traces.as_slice())?;
+    Ok(Some((first, second)))
+}
+
+/// The part of this polynomial and of the sums at the front, with the remainders of the trace polynomials.
+fn with_traces<F: Field>(
+    alloc: Global,
+    locator: Poly<F>,
+    sums: Vec<F>,
+    traces: &[Poly<F>],
+) -> Result<Part<F>, OutOfMemory>
+    requires monic { IsMonic F.ops (degree locator) locator }
+    requires degree { 1 ≤ degree locator }
+    requires enough { 2 * degree locator ≤ length sums.items }
+    ensures fits { IfOk result (λ p. Fits F.ops p.locator p.sums.items p.traces.items) }
+    ensures part { (first : ℕ) (es : List F) → IsSet F.ops es → locator ≡ with_roots F.ops es → take (2 * length es) sums.items ≡ every_sum F.ops es 1 (2 * length es)
+        → AreTraces F.ops F.bits_of F.BITS first es traces.now → IfOk result (λ p. IsPart F.ops F.bits_of F.BITS first es p.locator p.sums.items p.traces.items) }
+{
+    let mut sums = sums;
+    sums.truncate(2 * (locator.coeffs().len() - 1));
+    let traces = reduced(alloc, traces, &locator)?;
+    Ok(Part {
+        locator,
+        sums,
+        traces,
+    })
+}

@@ -1,0 +1,71 @@
+//! The set that has given sums.
+
+ghost use Rattle.std.specs.Prelude.{◌≡◌, ℕ, ◌*◌, ◌≤◌, List, length, map, IfOk, IfSome, IsSome, OnOk};
+ghost use Rattle.std.specs.List.Sorted.{IsPermutation};
+ghost use Rattle.sketch_rules.specs.Ops.{IsAllSums, every_sum};
+ghost use Rattle.sketch_rules.specs.Sketches.{IsCapacity};
+ghost use Rattle.sketch_rules.specs.Answers.{answer_at};
+ghost use Rattle.poly_rules.specs.Recurrences.{IsShortest};
+ghost use Rattle.trace_roots.specs.Parts.{IsSet};
+ghost use Rattle.std.specs.Option.{option_map};
+
+use crate::check::is_answer;
+use crate::members::find_members;
+use crate::part::Part;
+use base_types::OutOfMemory;
+use bm_solver::{Locator, monic};
+use field_core::Field;
+use std::alloc::Global;
+
+/// The set of nonzero elements that has these sums `s_1, s_2, .., s_(2c)`, ascending, of at most c elements; or none,
+/// where there is no such set. The sums are all sums of a sketch of capacity c, and the locator is their shortest
+/// recurrence, of a length of at most c.
+pub fn split<F: Field>(
+    alloc: Global,
+    locator: &Locator<F>,
+    sums: &[F],
+) -> Result<Option<Vec<F>>, OutOfMemory>
+    requires all { (m : List F) × IsCapacity (length m) × IsAllSums F.ops m sums.now }
+    requires shortest { IsShortest F.ops locator.now sums.now }
+    requires fits { 2 * length locator.now ≤ length sums.now }
+    ensures { (m : List F) → IsAllSums F.ops m sums.now → IfOk result (λ found. option_map (λ v. map F.bits_of v.items) found ≡ answer_at F.BITS (map F.bits_of m)) }
+{
+    let Some(mut members) = candidates(alloc, locator, sums)? else {
+        return Ok(None);
+    };
+    members.sort()?;
+    if is_answer(alloc, members.as_slice(), sums)? {
+        Ok(Some(members))
+    } else {
+        Ok(None)
+    }
+}
+
+/// The members of the set that has these sums, in any order. Where no set has them, what is found has no meaning.
+fn candidates<F: Field>(
+    alloc: Global,
+    locator: &Locator<F>,
+    sums: &[F],
+) -> Result<Option<Vec<F>>, OutOfMemory>
+    requires shortest { IsShortest F.ops locator.now sums.now }
+    requires fits { 2 * length locator.now ≤ length sums.now }
+    ensures found { (es : List F) → IsSet F.ops es → 2 * length es ≤ length sums.now → sums.now ≡ every_sum F.ops es 1 (length sums.now) → IfOk result IsSome }
+    ensures members { (es : List F) → IsSet F.ops es → 2 * length es ≤ length sums.now → sums.now ≡ every_sum F.ops es 1 (length sums.now)
+        → IfOk result (λ found. IfSome found (λ v. IsPermutation es v.items)) }
+{
+    let n = locator.length();
+    let mut found = Vec::with_capacity(alloc, n)?;
+    if n == 0 {
+        return Ok(Some(found));
+    }
+    let part = Part {
+        locator: monic(alloc, locator)?,
+        sums: Vec::from_slice(alloc, &sums[..2 * n])?,
+        traces: Vec::new(alloc),
+    };
+    if find_members(alloc, part, 0, &mut found)? {
+        Ok(Some(found))
+    } else {
+        Ok(None)
+    }
+}

@@ -1,0 +1,62 @@
+//! Sums of products with the windows of a list.
+
+ghost use Rattle.std.specs.Prelude.{◌≡◌, ◌+◌, ◌≤◌, length, replicate, IfOk};
+ghost use Rattle.sketch_rules.specs.Fields.{with_multiple};
+ghost use Rattle.splitting_laws.specs.Parts.{IsWindows};
+ghost use Rattle.trace_roots.specs.Added.{AreAdded};
+
+use base_types::OutOfMemory;
+use field_core::Field;
+use std::alloc::Global;
+
+/// n zeros.
+pub fn zeros<F: Field>(alloc: Global, n: usize) -> Result<Vec<F>, OutOfMemory>
+    ensures { IfOk result (λ v. v.items ≡ replicate n F.ops.zero) }
+{
+    Ok(vec![in alloc; F::ZERO; n]?)
+}
+
+/// For each k below n the sum of the products of `coefficients` with the sums from place k on.
+pub fn windows<F: Field>(
+    alloc: Global,
+    coefficients: &[F],
+    sums: &[F],
+    n: usize,
+) -> Result<Vec<F>, OutOfMemory>
+    requires { n + length coefficients.now ≤ length sums.now }
+    ensures { IfOk result (λ v. IsWindows F.ops coefficients.now sums.now n v.items) }
+{
+    let mut products = zeros(alloc, n)?;
+    add_windows(products.as_mut_slice(), coefficients, sums);
+    Ok(products)
+}
+
+/// Adds them to zeros.
+fn add_windows<F: Field>(products: &mut [F], coefficients: &[F], sums: &[F])
+    requires zeros { products.old ≡ replicate (length products.old) F.ops.zero }
+    requires fits { length products.old + length coefficients.now ≤ length sums.now }
+    ensures { IsWindows F.ops coefficients.now sums.now (length products.old) products.new }
+{
+    for (i, coefficient) in coefficients.iter().enumerate() {
+        let window = &sums[i..i + products.len()];
+        F::axpy(products, *coefficient, window);
+    }
+}
+
+/// The items of the first list, each added to the one at its place in the second.
+pub fn added<F: Field>(alloc: Global, first: &[F], second: &[F]) -> Result<Vec<F>, OutOfMemory>
+    requires { length first.now ≤ length second.now }
+    ensures { IfOk result (λ v. AreAdded F.ops first.now second.now v.items) }
+{
+    let mut both = Vec::from_slice(alloc, first)?;
+    F::axpy(both.as_mut_slice(), F::ONE, &second[..first.len()]);
+    Ok(both)
+}
+
+/// Adds `k` times each item to the one at its place in a list that may be longer.
+pub fn add_multiple<F: Field>(acc: &mut [F], k: F, items: &[F])
+    requires { length items.now ≤ length acc.old }
+    ensures { acc.new ≡ with_multiple F.ops acc.old k items.now }
+{
+    F::axpy(&mut acc[..items.len()], k, items);
+}
