@@ -2,11 +2,11 @@
 use Rattle.std.proofs.Common.{◌≡◌, [], ◌∷◌, ◌++◌, Ok, Err, refl}
 use Rattle.std.specs.Prelude.{codes}
 use Rattle.std.specs.Fmt.{digits}
-use Rattle.hex.specs.Hex.{decode_pairs}
+use Rattle.hex.specs.Hex.{decode_pairs, encode_with}
 use Rattle.base_types.specs.declared.text.Kind.TheVariants as kind
 use Rattle.line_rules.specs.Lines.{lines, line, numbered}
 use Rattle.line_rules.specs.Reading.{read_lines}
-use Rattle.text_rules.specs.Elements.{set_in}
+use Rattle.text_rules.specs.Elements.{set_in, set_text}
 use Rattle.text_rules.specs.Faults.{bad_input, kind_text}
 
 -- CR and LF, an empty line, digits of both cases, and no LF at the end
@@ -34,6 +34,14 @@ no_digit = refl
 kept : set_in (codes "00000001" ++ 13 ∷ []) ≡ Err (record { place = 1; kind = kind.DigitCount })
 unfolding lines numbered read_lines decode_pairs
 kept = refl
+
+-- each element as a line, the most significant digit first
+written : set_text (1 ∷ 0x8000000A ∷ []) ≡ line (codes "00000001") ++ line (codes "8000000a")
+unfolding encode_with
+written = refl
+
+none_written : set_text [] ≡ []
+none_written = refl
 
 faulty : bad_input 3 (kind.RaggedLength 6) ≡ codes "bad input 3: ragged length 6"
 unfolding kind_text digits

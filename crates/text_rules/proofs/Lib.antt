@@ -1,1 +1,3 @@
 pub mod Examples
+pub mod Lines
+pub mod Written

@@ -1,0 +1,44 @@
+-- Digits as a line, cut again.
+use Rattle.std.proofs.Common.{◌≡◌, ◌≢◌, ℕ, ◌+◌, ◌<◌, List, [], ◌∷◌, ◌++◌, length, true, refl, sym, ap, subst, ◌∙◌, arith}
+use Rattle.std.specs.List.{All}
+use Rattle.std.proofs.lemmas.Bool.{ne_eqb}
+use Rattle.std.proofs.lemmas.List.{append-nil}
+use Rattle.std.proofs.lemmas.List.Elements.{All-head, All-tail}
+use Rattle.hex.specs.Hex.{IsBytes, encode_lower, is_hex_digit}
+use Rattle.hex.proofs.HexLemmas.{decode_of-encode_lower, decode_of-ok}
+use Rattle.line_rules.specs.Lines.{line, lines, lines_of, numbered}
+
+-- neither LF nor CR
+abbrev pub IsPlain : ℕ → Type 0
+IsPlain b = (b ≢ 10) × (b ≢ 13)
+
+-- a digit is neither
+digit_plain : (b : ℕ) → is_hex_digit b ≡ true → IsPlain b
+digit_plain b digit = (
+  λ e. (let bad : is_hex_digit 10 ≡ true = subst (λ (x : ℕ). is_hex_digit x ≡ true) e digit in cc bad),
+  λ e. (let bad : is_hex_digit 13 ≡ true = subst (λ (x : ℕ). is_hex_digit x ≡ true) e digit in cc bad),
+)
+
+pub digits_plain : (bytes : List ℕ) → IsBytes bytes → All IsPlain (encode_lower bytes)
+digits_plain bytes small k d within =
+    let digits = decode_of-ok (encode_lower bytes) bytes (decode_of-encode_lower bytes small) in digit_plain _ (digits.1 k d within)
+
+-- a line of plain bytes is the first line
+pub lines-line : (text rest : List ℕ) → All IsPlain text → lines (line text ++ rest) ≡ text ∷ lines rest
+unfolding lines
+lines-line [] rest plain = refl
+lines-line (b ∷ text) rest plain =
+    let first = All-head IsPlain b text plain in
+    rw (ne_eqb b 10 first.0, ne_eqb b 13 first.1, lines-line text rest (All-tail IsPlain b text plain)) refl
+
+-- a line that isn't empty has a number
+pub numbered-line : (n : ℕ) (text : List ℕ) (ls : List (List ℕ)) → 0 < length text → numbered n (text ∷ ls) ≡ record { number = n; bytes = text } ∷ numbered (n + 1) ls
+unfolding numbered
+numbered-line n [] ls some = absurd (omega arith)
+numbered-line n (b ∷ text) ls some = refl
+
+-- one such line is all lines
+pub lines_of-line : (text : List ℕ) → All IsPlain text → 0 < length text → lines_of (line text) ≡ record { number = 1; bytes = text } ∷ []
+unfolding lines numbered
+lines_of-line text plain some =
+    ap (numbered 1) (ap lines (sym (append-nil (line text))) ∙ lines-line text [] plain) ∙ numbered-line 1 text [] some

@@ -1,0 +1,72 @@
+-- A set that was written, read again.
+use Rattle.std.proofs.Common.{◌≡◌, ◌≢◌, ℕ, zero, suc, ◌+◌, ◌==◌, ◌^◌, ◌<◌, false, List, [], ◌∷◌, ◌++◌, length, get_or, if◌then◌else◌, Ok, Err, refl, sym, ap, ◌∙◌, arith, append_assoc, lit<}
+use Rattle.std.specs.Int.{to_be_bytes, w32}
+use Rattle.std.specs.List.{All, AllPairs, list_any}
+use Rattle.std.proofs.lemmas.Bool.{eq-eqb, ne_eqb}
+use Rattle.std.proofs.lemmas.List.{append-nil}
+use Rattle.std.proofs.lemmas.List.Elements.{All-head, All-tail}
+use Rattle.std.proofs.lemmas.List.Folds.{list_any-append}
+use Rattle.std.proofs.lemmas.Nat.{from_be_bytes-to_be_bytes_4}
+use Rattle.hex.specs.Hex.{IsBytes, decode_of, lower_digits}
+use Rattle.hex.proofs.HexLemmas.{decode_of-encode_lower, length-encode_with}
+use Rattle.base_types.specs.declared.text.Kind.TheVariants as kind
+use Rattle.line_rules.specs.Lines.{lines, numbered}
+use Rattle.line_rules.specs.Reading.{behind, read_lines}
+use Rattle.text_rules.specs.Elements.{element_of, element_text, nonzero, put_in, set_in, set_text, spelled}
+use Rattle.text_rules.proofs.Lines.{digits_plain, lines-line, numbered-line}
+
+-- the bytes of an element are bytes
+IsBytes-be_bytes : (e : ℕ) → IsBytes (to_be_bytes w32 e)
+IsBytes-be_bytes e zero = omega arith
+IsBytes-be_bytes e (suc zero) = omega arith
+IsBytes-be_bytes e (suc (suc zero)) = omega arith
+IsBytes-be_bytes e (suc (suc (suc zero))) = omega arith
+IsBytes-be_bytes e (suc (suc (suc (suc i)))) = lit< tt
+
+-- 8 digits
+length-element_text : (e : ℕ) → length (element_text e) ≡ 8
+length-element_text e = length-encode_with lower_digits (to_be_bytes w32 e)
+
+-- the line of an element spells it
+element_of-text : (e : ℕ) → 0 < e → e < 2 ^ 32 → element_of (element_text e) ≡ Ok e
+element_of-text e some small =
+    let there : e ≢ 0 = λ none. omega arith in
+    let decoded = decode_of-encode_lower (to_be_bytes w32 e) (IsBytes-be_bytes e) in
+    ap (λ eight. if eight then spelled (decode_of (element_text e)) else Err kind.DigitCount) (eq-eqb (length (element_text e)) 8 (length-element_text e))
+    ∙ ap spelled decoded
+    ∙ ap nonzero (from_be_bytes-to_be_bytes_4 e small)
+    ∙ ap (λ zero. if zero then Err kind.Zero else Ok e) (ne_eqb e 0 there)
+
+-- an element that wasn't there
+put_in-new : (s : List ℕ) (e : ℕ) → list_any (λ d. d == e) s ≡ false → put_in s (Ok e) ≡ Ok (s ++ e ∷ [])
+put_in-new s e fresh = rw fresh refl
+
+-- it isn't one that comes later
+still_new : (s : List ℕ) (e : ℕ) (es : List ℕ) → AllPairs (λ a b. a ≢ b) (e ∷ es) → All (λ x. list_any (λ d. d == x) s ≡ false) (e ∷ es)
+    → All (λ x. list_any (λ d. d == x) (s ++ e ∷ []) ≡ false) es
+still_new s e es differ fresh k d within =
+    let x = get_or es k d in
+    let other : e ≢ x = differ 0 (suc k) d (omega arith) (omega arith) in
+    list_any-append (λ y. y == x) s (e ∷ []) ∙ (rw (fresh (suc k) d (omega arith), ne_eqb e x other) refl)
+
+-- the lines of elements are read behind others
+read-elements : (es s : List ℕ) (n : ℕ) → All (λ e. (0 < e) × (e < 2 ^ 32)) es → AllPairs (λ a b. a ≢ b) es → All (λ e. list_any (λ d. d == e) s ≡ false) es
+    → read_lines (λ ds bytes. put_in ds (element_of bytes)) s (numbered n (lines (set_text es))) ≡ Ok (s ++ es)
+unfolding read_lines lines numbered
+read-elements [] s n within differ fresh = ap Ok (sym (append-nil s))
+read-elements (e ∷ es) s n within differ fresh =
+    let here = All-head (λ e. (0 < e) × (e < 2 ^ 32)) e es within in
+    let cut = lines-line (element_text e) (set_text es) (digits_plain (to_be_bytes w32 e) (IsBytes-be_bytes e)) in
+    let first = numbered-line n (element_text e) (lines (set_text es)) (omega (arith, length-element_text e)) in
+    let spells = element_of-text e here.0 here.1 in
+    let placed = put_in-new s e (fresh 0 e (omega arith)) in
+    ap (λ ls. read_lines (λ ds bytes. put_in ds (element_of bytes)) s (numbered n ls)) cut
+    ∙ ap (read_lines (λ ds bytes. put_in ds (element_of bytes)) s) first
+    ∙ ap (λ r. behind (record { number = n; bytes = element_text e }) (put_in s r) (λ more. read_lines (λ ds bytes. put_in ds (element_of bytes)) more (numbered (n + 1) (lines (set_text es))))) spells
+    ∙ ap (λ r. behind (record { number = n; bytes = element_text e }) r (λ more. read_lines (λ ds bytes. put_in ds (element_of bytes)) more (numbered (n + 1) (lines (set_text es))))) placed
+    ∙ read-elements es (s ++ e ∷ []) (n + 1) (All-tail (λ e. (0 < e) × (e < 2 ^ 32)) e es within) (λ i j d below in_es. differ (suc i) (suc j) d (omega arith) (omega arith)) (still_new s e es differ fresh)
+    ∙ ap Ok (append_assoc s (e ∷ []) es)
+
+-- the text of a set is read as the set
+pub set_in-text : (es : List ℕ) → All (λ e. (0 < e) × (e < 2 ^ 32)) es → AllPairs (λ a b. a ≢ b) es → set_in (set_text es) ≡ Ok es
+set_in-text es within differ = read-elements es [] 1 within differ (λ k d inside. refl)
