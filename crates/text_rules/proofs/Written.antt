@@ -12,7 +12,7 @@ use Rattle.hex.proofs.HexLemmas.{decode_of-encode_lower, length-encode_with}
 use Rattle.base_types.specs.declared.text.Kind.TheVariants as kind
 use Rattle.line_rules.specs.Lines.{lines, numbered}
 use Rattle.line_rules.specs.Reading.{behind, read_lines}
-use Rattle.text_rules.specs.Elements.{element_of, element_text, nonzero, put_in, set_in, set_text, spelled}
+use Rattle.text_rules.specs.Elements.{IsSet, element_of, element_text, nonzero, put_in, set_in, set_text, spelled}
 use Rattle.text_rules.proofs.Lines.{digits_plain, lines-line, numbered-line}
 
 -- the bytes of an element are bytes
@@ -68,5 +68,5 @@ read-elements (e ∷ es) s n within differ fresh =
     ∙ ap Ok (append_assoc s (e ∷ []) es)
 
 -- the text of a set is read as the set
-pub set_in-text : (es : List ℕ) → All (λ e. (0 < e) × (e < 2 ^ 32)) es → AllPairs (λ a b. a ≢ b) es → set_in (set_text es) ≡ Ok es
-set_in-text es within differ = read-elements es [] 1 within differ (λ k d inside. refl)
+pub set_in-text : (es : List ℕ) → IsSet es → set_in (set_text es) ≡ Ok es
+set_in-text es set = read-elements es [] 1 set.0 set.1 (λ k d inside. refl)

@@ -1,6 +1,6 @@
 -- Elements as text: what `make` reads and `decode` writes.
-use Rattle.std.specs.Prelude.{ℕ, ◌==◌, ◌++◌, if◌then◌else◌, List, [], ◌∷◌, length, codes, Result, Ok, Err}
-use Rattle.std.specs.List.{flat_map, list_any}
+use Rattle.std.specs.Prelude.{◌≢◌, ℕ, ◌^◌, ◌<◌, ◌==◌, ◌++◌, if◌then◌else◌, List, [], ◌∷◌, length, codes, Result, Ok, Err}
+use Rattle.std.specs.List.{All, AllPairs, flat_map, list_any}
 use Rattle.std.specs.Int.{from_be_bytes, to_be_bytes, w32}
 use Rattle.hex.specs.Hex.{decode_of, encode_lower}
 use Rattle.hex.specs.declared.error.FromHexError.{FromHexError}
@@ -31,6 +31,10 @@ put_in es (Err k) = Err k
 -- the set whose elements the lines list, in their order
 abbrev pub set_in : List ℕ → Result (List ℕ) TextFault
 set_in text = read_lines (λ es bytes. put_in es (element_of bytes)) [] (lines_of text)
+
+-- the numbers are a set of elements: each is from 1 on and below 2 ^ 32, and no two are equal
+abbrev pub IsSet : List ℕ → Type 0
+IsSet es = All (λ e. (0 < e) × (e < 2 ^ 32)) es × AllPairs (λ a b. a ≢ b) es
 
 -- an element as text: the digits of its 4 bytes, the most significant first, in lower case
 abbrev pub element_text : ℕ → List ℕ

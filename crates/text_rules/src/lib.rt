@@ -1,11 +1,10 @@
 //! The definitions of what the program reads and writes as text, in `specs/`, and a law of them.
 #![tactic(auto)]
 
-ghost use Rattle.std.specs.Prelude.{◌≡◌, ◌≢◌, ℕ, ◌<◌, ◌^◌, List, Ok};
-ghost use Rattle.std.specs.List.{All, AllPairs};
-ghost use Rattle.text_rules.specs.Elements.{set_in, set_text};
+ghost use Rattle.std.specs.Prelude.{◌≡◌, ℕ, List, Ok};
+ghost use Rattle.text_rules.specs.Elements.{IsSet, set_in, set_text};
 
 /// The text of a set is read as the set. It does nothing when it runs: its contract is the theorem.
 pub fn written_sets_are_read()
-    ensures { (es : List ℕ) → All (λ e. (0 < e) × (e < 2 ^ 32)) es → AllPairs (λ a b. a ≢ b) es → set_in (set_text es) ≡ Ok es }
+    ensures { (es : List ℕ) → IsSet es → set_in (set_text es) ≡ Ok es }
 {}
