@@ -1,32 +1,44 @@
 -- What the ends of a run say where the input tells its bytes.
-use Rattle.std.proofs.Common.{◌≡◌, ◌≢◌, ℕ, ◌<◌, ◌≤◌, ◌⊎◌, inl, inr, List, ◌++◌, length, refl, sym, ap, ◌∙◌, subst, arith, length-append, Ok, Err, Result}
+use Rattle.std.proofs.Common.{◌≡◌, ◌≢◌, ℕ, ◌<◌, ◌≤◌, ◌⊎◌, inl, inr, List, [], ◌∷◌, ◌++◌, length, refl, sym, ap, ◌∙◌, subst, arith, length-append, Ok, Err, Result}
 use Rattle.std.proofs.lemmas.Bool.{cases_lt, le-ltb, lt-ltb}
 use Rattle.std.proofs.lemmas.Fmt.{decimal_injective}
 use Rattle.std.proofs.lemmas.List.{append-nil}
+use Rattle.std.specs.Prelude.{codes}
 use Rattle.std.specs.Fmt.{decimal}
 use Rattle.std.specs.Io.KnownBytes.{Appends, Consumes, IsAtEnd}
 use Rattle.std.specs.declared.option.Option.{Option}
 use Rattle.std.specs.declared.option.Option.TheVariants.{Some, None}
 use Rattle.base_types.specs.declared.text.TextFault.{TextFault}
+use Rattle.sketch_rules.specs.Answers.{answer_of}
 use Rattle.line_rules.specs.Lines.{line}
 use Rattle.text_rules.specs.Elements.{set_in}
 use Rattle.text_rules.specs.Faults.{too_long}
 use Rattle.text_rules.specs.Limits.{input_limit}
-use Rattle.erlay_cli.specs.SketchLines.{sum_in}
+use Rattle.erlay_base.specs.Causes.{Rose}
+use Rattle.erlay_cli.specs.SketchLines.{sketch_in, sum_in}
 use Rattle.erlay_cli.specs.declared.command.Command.{Command}
 use Rattle.erlay_cli.specs.declared.command.Command.TheVariants as command
 use Rattle.erlay_cli.specs.declared.status.Status.{Status}
 use Rattle.erlay_cli.specs.declared.status.Status.TheVariants as status
 use Rattle.erlay_cli.specs.Words.{HasForm, Asks}
 use Rattle.erlay_cli.specs.Outside.{Seen, Reads}
-use Rattle.erlay_cli.specs.Answers.{Answer, Leads, answer_to, made, summed, work_of}
+use Rattle.erlay_cli.specs.Answers.{Answer, Leads, answer_to, decoded, found, made, summed, work_of}
 use Rattle.erlay_cli.specs.Ends.{Ends, Finishes, IsAnswer, IsAnswerTo}
+
+-- two names
+other_name : codes "merge" ∷ [] ≡ codes "decode" ∷ [] → ⊥
+other_name same = cc same
 
 -- words ask for one command
 pub one_form : (words : List (List ℕ)) (c d : Command) → HasForm words c → HasForm words d → c ≡ d
 one_form words command.Merge command.Merge is_m is_n = λ i. command.Merge
+one_form words command.Decode command.Decode is_m is_n = λ i. command.Decode
+one_form words command.Merge command.Decode is_m is_n = absurd (other_name (sym is_m ∙ is_n))
+one_form words command.Decode command.Merge is_m is_n = absurd (other_name (sym is_n ∙ is_m))
 one_form words (command.Make m) command.Merge is_m is_n = absurd (let lens : 2 ≡ 1 = ap length (sym is_m.0 ∙ is_n) in omega arith)
+one_form words (command.Make m) command.Decode is_m is_n = absurd (let lens : 2 ≡ 1 = ap length (sym is_m.0 ∙ is_n) in omega arith)
 one_form words command.Merge (command.Make n) is_m is_n = absurd (let lens : 1 ≡ 2 = ap length (sym is_m ∙ is_n.0) in omega arith)
+one_form words command.Decode (command.Make n) is_m is_n = absurd (let lens : 1 ≡ 2 = ap length (sym is_m ∙ is_n.0) in omega arith)
 one_form words (command.Make m) (command.Make n) is_m is_n =
     let same : decimal m ≡ decimal n = cc (is_m.0, is_n.0) in
     ap command.Make (decimal_injective m n (omega (arith, is_m.1)) (omega (arith, is_n.1)) same)
@@ -65,6 +77,7 @@ module _ (words : List (List ℕ)) (old new : Seen) (c : Command) (text : List �
   pub answer_told : (end : Status) (t : List ℕ) → IsAnswer words old new end t → IsAnswerTo c text end t
   answer_told status.Ok t answer = answer_read status.Ok t answer
   answer_told (status.BadInput place k) t answer = answer_read (status.BadInput place k) t answer
+  answer_told status.NoSet t answer = answer_read status.NoSet t answer
   answer_told (status.TooLong limit) t answer = answer_read (status.TooLong limit) t answer
   answer_told status.Usage t answer = absurd (answer.0 c form)
   answer_told status.ReadFault t answer = answer.1
@@ -78,6 +91,7 @@ written_whole Answer old new status.WriteFault text none answer wrote = absurd (
 written_whole Answer old new status.Ok text none answer wrote = (text, answer, wrote)
 written_whole Answer old new status.Usage text none answer wrote = (text, answer, wrote)
 written_whole Answer old new (status.BadInput place k) text none answer wrote = (text, answer, wrote)
+written_whole Answer old new status.NoSet text none answer wrote = (text, answer, wrote)
 written_whole Answer old new (status.TooLong limit) text none answer wrote = (text, answer, wrote)
 written_whole Answer old new status.ReadFault text none answer wrote = (text, answer, wrote)
 written_whole Answer old new status.OutOfMemory text none answer wrote = (text, answer, wrote)
@@ -99,9 +113,18 @@ summed_ends : (r : Result (List ℕ) TextFault) → ((summed r).status ≢ statu
 summed_ends (Ok es) = (λ e. cc, λ e. cc)
 summed_ends (Err f) = (λ e. cc, λ e. cc)
 
+found_ends : (r : Option (List ℕ)) → ((found r).status ≢ status.WriteFault) × ((found r).status ≢ status.Usage)
+found_ends (Some es) = (λ e. cc, λ e. cc)
+found_ends None = (λ e. cc, λ e. cc)
+
+decoded_ends : (r : Result (List ℕ) TextFault) → ((decoded r).status ≢ status.WriteFault) × ((decoded r).status ≢ status.Usage)
+decoded_ends (Ok sums) = found_ends (answer_of sums)
+decoded_ends (Err f) = (λ e. cc, λ e. cc)
+
 work_ends : (c : Command) (input : List ℕ) → ((work_of c input).status ≢ status.WriteFault) × ((work_of c input).status ≢ status.Usage)
 work_ends (command.Make capacity) input = made_ends capacity (set_in input)
 work_ends command.Merge input = summed_ends (sum_in input)
+work_ends command.Decode input = decoded_ends (sketch_in input)
 
 answer_ends : (c : Command) (input : List ℕ) → ((answer_to c input).status ≢ status.WriteFault) × ((answer_to c input).status ≢ status.Usage)
 answer_ends c input = elim (cases_lt input_limit (length input)) [
@@ -111,3 +134,19 @@ answer_ends c input = elim (cases_lt input_limit (length input)) [
 
 pub no_write_fault : (c : Command) (input t : List ℕ) → IsAnswerTo c input status.WriteFault t → ⊥
 no_write_fault c input t answer = (answer_ends c input).0 (sym answer.0)
+
+-- ---- where no count of faults rose
+
+-- a failed read has its cause
+pub read_cause : (words : List (List ℕ)) (old new out_old out_new : Seen) (result : Status) → Ends (IsAnswer words old new) out_old out_new result
+    → result ≡ status.ReadFault → Rose old.faults new.faults
+read_cause words old new out_old out_new result ended same =
+    let at = subst (λ (r : Status). Ends (IsAnswer words old new) out_old out_new r) same ended in at.1.0.2
+
+-- the call ends as the command's answer says, or memory ran out
+pub ends_as_answered : (c : Command) (text : List ℕ) (old new : Seen) (result : Status) → Ends (IsAnswerTo c text) old new result
+    → result ≢ status.ReadFault → ¬ Rose old.faults new.faults → (result ≡ (answer_to c text).status) ⊎ (result ≡ status.OutOfMemory)
+ends_as_answered c text old new status.ReadFault ended no_read no_write = absurd (no_read refl)
+ends_as_answered c text old new status.WriteFault ended no_read no_write = absurd (no_write ended.0)
+ends_as_answered c text old new status.OutOfMemory ended no_read no_write = inr refl
+ends_as_answered c text old new end ended no_read no_write = inl ended.1.0

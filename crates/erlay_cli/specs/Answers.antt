@@ -1,12 +1,13 @@
 -- What a command writes and answers for the bytes that it read.
-use Rattle.std.specs.Prelude.{◌≡◌, ℕ, nat_lt, if◌then◌else◌, List, length, Result, Ok, Err}
+use Rattle.std.specs.Prelude.{◌≡◌, ℕ, nat_lt, if◌then◌else◌, List, length, Option, Some, None, Result, Ok, Err}
 use Rattle.base_types.specs.declared.text.TextFault.{TextFault}
+use Rattle.sketch_rules.specs.Answers.{answer_of}
 use Rattle.sketch_rules.specs.Sketches.{digits_of, sketch_of}
 use Rattle.line_rules.specs.Lines.{line}
-use Rattle.text_rules.specs.Elements.{set_in}
+use Rattle.text_rules.specs.Elements.{no_set, set_in, set_text}
 use Rattle.text_rules.specs.Faults.{bad_input, too_long}
 use Rattle.text_rules.specs.Limits.{input_limit}
-use Rattle.erlay_cli.specs.SketchLines.{sum_in}
+use Rattle.erlay_cli.specs.SketchLines.{sketch_in, sum_in}
 use Rattle.erlay_cli.specs.declared.command.Command.{Command}
 use Rattle.erlay_cli.specs.declared.command.Command.TheVariants as command
 use Rattle.erlay_cli.specs.declared.report.Report.{Report}
@@ -35,10 +36,21 @@ abbrev pub summed : Result (List ℕ) TextFault → Answer
 summed (Ok sums) = sketched sums
 summed (Err f) = faulty f
 
+-- a set, as its lines, or that there is none
+abbrev pub found : Option (List ℕ) → Answer
+found (Some es) = record { status = status.Ok; text = set_text es }
+found None = record { status = status.NoSet; text = line no_set }
+
+-- the set that has a sketch, or why there is no sketch
+abbrev pub decoded : Result (List ℕ) TextFault → Answer
+decoded (Ok sums) = found (answer_of sums)
+decoded (Err f) = faulty f
+
 -- what a command answers to an input within the limit
 abbrev pub work_of : Command → List ℕ → Answer
 work_of (command.Make capacity) input = made capacity (set_in input)
 work_of command.Merge input = summed (sum_in input)
+work_of command.Decode input = decoded (sketch_in input)
 
 -- what a command answers to an input
 abbrev pub answer_to : Command → List ℕ → Answer

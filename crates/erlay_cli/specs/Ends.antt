@@ -31,9 +31,9 @@ IsAnswerTo c input status.ReadFault text = text ≡ line read_fault
 IsAnswerTo c input status.OutOfMemory text = text ≡ line out_of_memory
 IsAnswerTo c input end text = Leads c input end text
 
--- the command's answer to the input is Ok
+-- the command's answer to the input is Ok, or that no set has its sketch
 abbrev pub IsSound : Command → List ℕ → Type 0
-IsSound c input = (answer_to c input).status ≡ status.Ok
+IsSound c input = ((answer_to c input).status ≡ status.Ok) ⊎ ((answer_to c input).status ≡ status.NoSet)
 
 -- the text was written whole and the call ends as it was to; or a write failed, and a proper front part was written
 abbrev pub Finishes : Status → List ℕ → Seen → Seen → Status → Type 0

@@ -1,4 +1,4 @@
--- Sketches as lines of text: what `merge` reads.
+-- Sketches as lines of text: what `merge` and `decode` read.
 use Rattle.std.specs.Prelude.{ℕ, ◌==◌, if◌then◌else◌, List, [], ◌∷◌, length, Result, Ok, Err}
 use Rattle.base_types.specs.declared.text.Kind.{Kind}
 use Rattle.base_types.specs.declared.text.Kind.TheVariants as kind
@@ -40,3 +40,12 @@ sum_of_lines ls = Err (record { place = length ls; kind = kind.LineCount })
 -- the sum of the two sketches that the text lists
 abbrev pub sum_in : List ℕ → Result (List ℕ) TextFault
 sum_in text = sum_of_lines (lines_of text)
+
+-- the sketch of the only line; where there are more or fewer lines, their count is named
+abbrev pub sketch_of_lines : List Line → Result (List ℕ) TextFault
+sketch_of_lines (only ∷ []) = behind only (sketch_of_line only.bytes) (λ sums. Ok sums)
+sketch_of_lines ls = Err (record { place = length ls; kind = kind.LineCount })
+
+-- the sketch that the text lists
+abbrev pub sketch_in : List ℕ → Result (List ℕ) TextFault
+sketch_in text = sketch_of_lines (lines_of text)

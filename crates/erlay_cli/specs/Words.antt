@@ -9,6 +9,7 @@ use Rattle.erlay_cli.specs.declared.command.Command.TheVariants as command
 abbrev pub HasForm : List (List ℕ) → Command → Type 0
 HasForm words (command.Make capacity) = (words ≡ codes "make" ∷ decimal capacity ∷ []) × IsCapacity capacity
 HasForm words command.Merge = words ≡ codes "merge" ∷ []
+HasForm words command.Decode = words ≡ codes "decode" ∷ []
 
 -- the words ask for no command
 abbrev pub IsFormless : List (List ℕ) → Type 0

@@ -16,6 +16,8 @@ pub enum Command {
     Make(usize),
     /// Write the sum of the two sketches of the input.
     Merge,
+    /// Write the set that has the sketch of the input.
+    Decode,
 }
 
 /// The capacity of a sketch that the text spells in decimal digits.
@@ -33,6 +35,7 @@ fn without_argument(name: &str) -> Option<Command>
 {
     match name {
         "merge" => Some(Command::Merge),
+        "decode" => Some(Command::Decode),
         _ => None,
     }
 }
@@ -82,6 +85,8 @@ mod tests {
             ("", None),
             ("merge", Some(Command::Merge)),
             ("merge 2", None),
+            ("decode", Some(Command::Decode)),
+            ("decode 3", None),
         ] {
             let words = words_of(rt.alloc(), line).expect(&rt, "memory");
             assert_eq!(rt; command_of(words.as_slice()), want, "at {line}");

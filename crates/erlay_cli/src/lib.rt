@@ -2,11 +2,13 @@
 #![tactic(auto)]
 
 mod command;
+mod decode;
 mod faults;
 mod make;
 mod merge;
 mod number;
 mod report;
+mod sketch_lines;
 mod status;
 #[cfg(test)]
 mod tests;

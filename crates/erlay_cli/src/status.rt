@@ -13,6 +13,8 @@ pub enum Status {
     Usage,
     /// The input has a fault, the first of which is named.
     BadInput { place: u64, kind: Kind },
+    /// No set of at most as many elements as the sketch has sums has it. `no set` was written.
+    NoSet,
     /// A read of the input failed.
     ReadFault,
     /// A write of the output failed. Nothing was written after it.
@@ -34,6 +36,7 @@ impl Status {
             Status::Ok => 0,
             Status::Usage => 1,
             Status::BadInput { .. } => 2,
+            Status::NoSet => 3,
             Status::ReadFault => 5,
             Status::WriteFault => 6,
             Status::TooLong(_) => 10,

@@ -7,12 +7,13 @@ ghost use Rattle.line_rules.specs.Lines.{line};
 ghost use Rattle.text_rules.specs.Faults.{out_of_memory};
 ghost use Rattle.erlay_cli.specs.Words.{HasForm, IsFormless};
 ghost use Rattle.erlay_cli.specs.Outside.{seen};
-ghost use Rattle.erlay_cli.specs.Answers.{Reports, work_of};
+ghost use Rattle.erlay_cli.specs.Answers.{Reports, answer_to, work_of};
 ghost use Rattle.erlay_cli.specs.Ends.{Ends, Finishes, IsAnswer, IsAnswerTo, IsSound};
 ghost use Rattle.erlay_cli.specs.Stops.{status_of, text_of};
 ghost use Rattle.erlay_cli.specs.declared.command.Command.{Command};
 
 use crate::command::{Command, command_of};
+use crate::decode::decode;
 use crate::make::make;
 use crate::merge::merge;
 use crate::report::{INPUT_LIMIT, Report, Stop};
@@ -48,7 +49,7 @@ pub fn run<I: Source, O: Sink>(
     // With a sound input and no fault of the outside, nothing but want of memory keeps the command from its work.
     ensures complete { (c : Command) (text : List ℕ) → HasForm (map string_bytes words.now) c → I.left input.old ≡ Some text → IsSound c text
         → ¬ Rose (I.faults input.old) (I.faults input.new) → ¬ Rose (O.faults output.old) (O.faults output.new)
-        → (result ≡ Status.Ok) ⊎ (result ≡ Status.OutOfMemory) }
+        → (result ≡ (answer_to c text).status) ⊎ (result ≡ Status.OutOfMemory) }
 {
     match answer(alloc, words, input) {
         Ok(report) => finish(output, report.status, report.text.as_slice()),
@@ -91,6 +92,7 @@ fn work(alloc: Global, command: Command, input: &[u8]) -> Result<Report, Stop>
     let answered = match command {
         Command::Make(capacity) => make(alloc, capacity, input),
         Command::Merge => merge(alloc, input),
+        Command::Decode => decode(alloc, input),
     };
     answered.map_err(|_| Stop::OutOfMemory)
 }

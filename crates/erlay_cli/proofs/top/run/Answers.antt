@@ -2,7 +2,7 @@ use Rattle.std.proofs.Common.{map}
 use Rattle.std.specs.String.{string_bytes}
 use Rattle.erlay_cli.specs.Outside.{seen}
 use Rattle.erlay_cli.specs.Ends.{IsAnswer, IsAnswerTo}
-use Rattle.erlay_cli.proofs.Endings.{answer_told, finished, no_write_fault}
+use Rattle.erlay_cli.proofs.Endings.{answer_told, ends_as_answered, finished, no_write_fault, read_cause}
 use Rattle.erlay_cli.proofs.top.run.Goals as goal
 
 pub returns-in-Ok-clause-ends : goal.returns-in-Ok-clause-ends
@@ -30,3 +30,17 @@ returns-in-Err-clause-told g c command text form told =
     c.status.result c.text.result.now (rw (c.status.ensures, c.text.ensures) c.in-Err.ensures.err) in
     finished (IsAnswerTo command text) (seen g.O.Sink.written g.O.Sink.faults c.args.output.now) (seen g.O.Sink.written g.O.Sink.faults c.finish-in-Err.new.output)
     c.status.result c.text.result.now c.finish-in-Err.result (no_write_fault command text c.text.result.now) answer c.finish-in-Err.ensures.finishes
+
+pub returns-in-Ok-clause-complete : goal.returns-in-Ok-clause-complete
+returns-in-Ok-clause-complete g c command text form told sound no_read no_write =
+    let cause = read_cause (map string_bytes c.args.words.now) (seen g.I.Source.left g.I.Source.faults c.args.input.now) (seen g.I.Source.left g.I.Source.faults c.answer.new.input)
+    (seen g.O.Sink.written g.O.Sink.faults c.args.output.now) (seen g.O.Sink.written g.O.Sink.faults c.finish.new.output) c.finish.result (returns-in-Ok-clause-ends g c) in
+    ends_as_answered command text (seen g.O.Sink.written g.O.Sink.faults c.args.output.now) (seen g.O.Sink.written g.O.Sink.faults c.finish.new.output) c.finish.result
+    (returns-in-Ok-clause-told g c command text form told) (λ failed. no_read (cause failed)) no_write
+
+pub returns-in-Err-clause-complete : goal.returns-in-Err-clause-complete
+returns-in-Err-clause-complete g c command text form told sound no_read no_write =
+    let cause = read_cause (map string_bytes c.args.words.now) (seen g.I.Source.left g.I.Source.faults c.args.input.now) (seen g.I.Source.left g.I.Source.faults c.answer.new.input)
+    (seen g.O.Sink.written g.O.Sink.faults c.args.output.now) (seen g.O.Sink.written g.O.Sink.faults c.finish-in-Err.new.output) c.finish-in-Err.result (returns-in-Err-clause-ends g c) in
+    ends_as_answered command text (seen g.O.Sink.written g.O.Sink.faults c.args.output.now) (seen g.O.Sink.written g.O.Sink.faults c.finish-in-Err.new.output) c.finish-in-Err.result
+    (returns-in-Err-clause-told g c command text form told) (λ failed. no_read (cause failed)) no_write
