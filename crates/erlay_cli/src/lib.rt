@@ -4,6 +4,7 @@
 mod command;
 mod decode;
 mod faults;
+mod laws;
 mod make;
 mod merge;
 mod number;
@@ -14,5 +15,6 @@ mod status;
 mod tests;
 mod top;
 
+pub use laws::differences_are_decoded;
 pub use status::Status;
 pub use top::{run, stopped};

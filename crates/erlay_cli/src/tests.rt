@@ -109,6 +109,44 @@ fn sets_have_sketches(rt: HostRuntime) -> Result<(), Fail> {
 }
 
 #[test]
+fn sketches_have_sets(rt: HostRuntime) -> Result<(), Fail> {
+    for (input, want) in [
+        ("0300000009000000\n", "00000001\n00000002\n"),
+        (
+            "0000000006000000120000007e000000",
+            "00000001\n00000002\n00000003\n",
+        ),
+        ("00000080726d0420\n", "80000000\n"),
+        // one sum: of 3, and of 1 and 2 as well
+        ("03000000\n", "00000003\n"),
+        // CR and LF, empty lines, upper case
+        ("\r\n\n0A000000\r\n\n", "0000000a\n"),
+    ] {
+        leads_to(&rt, "decode", input.as_bytes(), Status::Ok, want)?;
+    }
+    Ok(())
+}
+
+#[test]
+fn the_empty_set_has_no_lines(rt: HostRuntime) -> Result<(), Fail> {
+    let zeros = vec![in rt.alloc(); b'0'; 8_192]?;
+    leads_to(&rt, "decode", zeros.as_slice(), Status::Ok, "")
+}
+
+#[test]
+fn some_sketches_have_no_set(rt: HostRuntime) -> Result<(), Fail> {
+    for input in [
+        // the first two sums of 1, 2 and 3
+        "0000000006000000\n",
+        // x ^ 3 + x + 1 has no root
+        "00000000010000000100000001000000",
+    ] {
+        leads_to(&rt, "decode", input.as_bytes(), Status::NoSet, "no set\n")?;
+    }
+    Ok(())
+}
+
+#[test]
 fn the_first_fault_of_elements_is_named(rt: HostRuntime) -> Result<(), Fail> {
     for (input, place, kind, want) in [
         (b"00000000".as_slice(), 1, Kind::Zero, "bad input 1: zero\n"),
@@ -218,6 +256,60 @@ fn the_first_fault_of_sketches_is_named(rt: HostRuntime) -> Result<(), Fail> {
 }
 
 #[test]
+fn the_first_fault_of_a_sketch_is_named(rt: HostRuntime) -> Result<(), Fail> {
+    for (input, place, kind, want) in [
+        (
+            b"".as_slice(),
+            0,
+            Kind::LineCount,
+            "bad input 0: line count\n",
+        ),
+        (
+            b"03000000\n\n0300000009000000\n",
+            2,
+            Kind::LineCount,
+            "bad input 2: line count\n",
+        ),
+        (b"x\ny\nz", 3, Kind::LineCount, "bad input 3: line count\n"),
+        (
+            b"0300000\n",
+            1,
+            Kind::OddDigits,
+            "bad input 1: odd digits\n",
+        ),
+        (
+            b"\n030000x\r\n",
+            2,
+            Kind::OddDigits,
+            "bad input 2: odd digits\n",
+        ),
+        (
+            b"\r\n0300x0\n",
+            2,
+            Kind::BadDigit,
+            "bad input 2: bad digit\n",
+        ),
+        (
+            b"030000000900",
+            1,
+            Kind::RaggedLength(6),
+            "bad input 1: ragged length 6\n",
+        ),
+    ] {
+        leads_to(&rt, "decode", input, bad(place, kind), want)?;
+    }
+    let wide = vec![in rt.alloc(); b'0'; 2 * 16_388]?;
+    let want = "bad input 1: too wide 16388\n";
+    leads_to(
+        &rt,
+        "decode",
+        wide.as_slice(),
+        bad(1, Kind::TooWide(16_388)),
+        want,
+    )
+}
+
+#[test]
 fn words_without_form_read_nothing(rt: HostRuntime) -> Result<(), Fail> {
     let alloc = rt.alloc();
     let streams = Streams {
@@ -236,6 +328,8 @@ fn words_without_form_read_nothing(rt: HostRuntime) -> Result<(), Fail> {
         "make 3 3",
         "merge 2",
         "merge merge",
+        "decode 3",
+        "decoded",
         "Make 3",
     ] {
         let (ended, text) = outcome(alloc, words, b"", streams)?;
@@ -309,6 +403,7 @@ fn statuses_have_codes(rt: HostRuntime) {
         (Status::Ok, 0),
         (Status::Usage, 1),
         (bad(1, Kind::Zero), 2),
+        (Status::NoSet, 3),
         (Status::ReadFault, 5),
         (Status::WriteFault, 6),
         (Status::TooLong(67_108_864), 10),

@@ -42,3 +42,12 @@ pub lines_of-line : (text : List ℕ) → All IsPlain text → 0 < length text �
 unfolding lines numbered
 lines_of-line text plain some =
     ap (numbered 1) (ap lines (sym (append-nil (line text))) ∙ lines-line text [] plain) ∙ numbered-line 1 text [] some
+
+-- and so are two
+pub lines_of-two : (first second : List ℕ) → All IsPlain first → All IsPlain second → 0 < length first → 0 < length second
+    → lines_of (line first ++ line second) ≡ record { number = 1; bytes = first } ∷ record { number = 2; bytes = second } ∷ []
+unfolding lines numbered
+lines_of-two first second first_plain second_plain first_some second_some =
+    ap (numbered 1) (lines-line first (line second) first_plain ∙ ap (λ ls. first ∷ ls) (ap lines (sym (append-nil (line second))) ∙ lines-line second [] second_plain))
+    ∙ numbered-line 1 first (second ∷ []) first_some
+    ∙ ap (λ ls. record { number = 1; bytes = first } ∷ ls) (numbered-line 2 second [] second_some)

@@ -1,0 +1,125 @@
+-- The sum of the sketches of two sets, decoded.
+use Rattle.std.proofs.Common.{◌≡◌, inl, inr, ℕ, ◌^◌, ◌<◌, ◌≤◌, List, [], ◌∷◌, ◌++◌, length, get_or, map, sym, ap, subst, ◌∙◌, arith, length-append}
+use Rattle.std.specs.List.{All, Contains}
+use Rattle.std.proofs.lemmas.List.Elements.{Contains-get_or}
+use Rattle.sketch_rules.specs.Ops.{sketch_by}
+use Rattle.sketch_rules.specs.Elements.{numbers}
+use Rattle.sketch_rules.specs.Sets.{difference}
+use Rattle.sketch_rules.specs.Sketches.{IsCapacity, digits_of, merged, sketch_of}
+use Rattle.sketch_rules.specs.Answers.{Answer as SketchAnswer}
+use Rattle.sketch_laws.proofs.EverySums.{length-sums_from}
+use Rattle.sketch_laws.proofs.Merging.{merged-sketches}
+use Rattle.sketch_laws.proofs.NumberedLists.{elements_of}
+use Rattle.sketch_laws.proofs.Rising.{Rises-from_AllPairs}
+use Rattle.sketch_laws.proofs.Sets.{has-from_Contains, Contains-from_has, difference-from, difference-rises}
+use Rattle.sketch_laws.proofs.SketchNumbers.{sketch_by-numbers}
+use Rattle.sketch_laws.proofs.Unique.{answer_at-is}
+use Rattle.field_core.specs.Gf32.{bits_of, field, numbered, ops, ring}
+use Rattle.line_rules.specs.Lines.{line}
+use Rattle.text_rules.specs.Elements.{IsSet, set_text}
+use Rattle.text_rules.specs.Limits.{input_limit}
+use Rattle.text_rules.proofs.Written.{set_in-text}
+use Rattle.element_lines.proofs.Numbers.{below}
+use Rattle.erlay_cli.specs.declared.command.Command.TheVariants as command
+use Rattle.erlay_cli.specs.declared.status.Status.TheVariants as status
+use Rattle.erlay_cli.specs.Answers.{Answer, answer_to, decoded, found, made, sketched, summed}
+use Rattle.erlay_cli.proofs.Endings.{short_answer}
+use Rattle.erlay_cli.proofs.Spelled.{length-digits_of, sketch_in-line, sum_in-lines}
+
+-- ---- sketches
+
+-- a sketch of capacity c has c sums
+length-sketch : (es : List ℕ) (c : ℕ) → length (sketch_of es c) ≡ c
+length-sketch es c = length-sums_from (numbers 32) es 0 c
+
+-- each is an element
+sums_small : (es : List ℕ) (c : ℕ) → All (λ e. e < 2 ^ 32) es → All (λ s. s < 2 ^ 32) (sketch_of es c)
+sums_small es c small =
+    let made = elements_of ops bits_of 32 numbered es small in
+    let same : map bits_of (sketch_by ops made.0 c) ≡ sketch_of es c = sketch_by-numbers ops bits_of 32 numbered made.0 c ∙ ap (λ ns. sketch_of ns c) made.1 in
+    subst (λ (ns : List ℕ). All (λ s. s < 2 ^ 32) ns) same (below (sketch_by ops made.0 c))
+
+-- ---- the difference of two sets
+
+-- what holds of the members of both holds of those of the difference
+of_difference : (P : ℕ → Type 0) (xs ys : List ℕ) → All P xs → All P ys → All P (difference xs ys)
+of_difference P xs ys in_xs in_ys k d within =
+    let n = get_or (difference xs ys) k d in
+    elim (difference-from xs ys n (has-from_Contains (difference xs ys) n (Contains-get_or (difference xs ys) k d within))) [
+      | inl one ↦ of_member xs n in_xs (Contains-from_has xs n one)
+      | inr other ↦ of_member ys n in_ys (Contains-from_has ys n other)
+    ]
+  where
+    of_member : (zs : List ℕ) (n : ℕ) → All P zs → Contains zs n → P n
+    of_member zs n all (k, within, here) = subst P here (all k n within)
+
+-- it answers the sum of the sketches
+difference_answers : (xs ys : List ℕ) (c : ℕ) → IsSet xs → IsSet ys → length (difference xs ys) ≤ c
+    → SketchAnswer 32 (merged (sketch_of xs c) (sketch_of ys c)) (difference xs ys)
+difference_answers xs ys c x_set y_set few =
+    subst (λ (sums : List ℕ). SketchAnswer 32 sums (difference xs ys)) (sym (merged-sketches 32 xs ys c x_set.1 y_set.1))
+    (record {
+      rises = Rises-from_AllPairs 1 (2 ^ 32) (difference xs ys) (λ k d within. (members k d within).0) (λ k d within. (members k d within).1) (difference-rises xs ys x_set.1 y_set.1);
+      few = omega (arith, few, length-sketch (difference xs ys) c);
+      sketched = ap (sketch_of (difference xs ys)) (length-sketch (difference xs ys) c);
+    })
+  where
+    members : All (λ e. (0 < e) × (e < 2 ^ 32)) (difference xs ys)
+    members = of_difference (λ e. (0 < e) × (e < 2 ^ 32)) xs ys x_set.0 y_set.0
+
+-- ---- the commands
+
+-- the line of a sketch is within the limit
+line_within : (sums : List ℕ) → IsCapacity (length sums) → length (line (digits_of sums)) ≤ input_limit
+line_within sums capacity =
+    let digits = length-digits_of sums in let whole = length-append (digits_of sums) (10 ∷ []) in omega (arith, capacity.1)
+
+-- the line of a sketch that a set has, decoded
+line_decoded : (sums es : List ℕ) → IsCapacity (length sums) → All (λ s. s < 2 ^ 32) sums → SketchAnswer 32 sums es
+    → answer_to command.Decode (line (digits_of sums)) ≡ record { status = status.Ok; text = set_text es }
+line_decoded sums es capacity small answer =
+    short_answer command.Decode (line (digits_of sums)) (line_within sums capacity)
+    ∙ ap decoded (sketch_in-line sums capacity small)
+    ∙ ap found (answer_at-is ops bits_of 32 ring field numbered sums es answer)
+
+-- the text of a set, made a sketch of
+set_made : (es : List ℕ) (c : ℕ) → IsSet es → length (set_text es) ≤ input_limit → answer_to (command.Make c) (set_text es) ≡ sketched (sketch_of es c)
+set_made es c set short = short_answer (command.Make c) (set_text es) short ∙ ap (made c) (set_in-text es set)
+
+-- the lines of two sketches of one capacity, merged
+lines_merged : (ms ns : List ℕ) → IsCapacity (length ms) → IsCapacity (length ns) → length ms ≡ length ns → All (λ s. s < 2 ^ 32) ms → All (λ s. s < 2 ^ 32) ns
+    → answer_to command.Merge (line (digits_of ms) ++ line (digits_of ns)) ≡ sketched (merged ms ns)
+lines_merged ms ns first second same m_small n_small =
+    short_answer command.Merge (line (digits_of ms) ++ line (digits_of ns)) (omega (arith, length-digits_of ms, length-digits_of ns, length-append (line (digits_of ms)) (line (digits_of ns)), length-append (digits_of ms) (10 ∷ []), length-append (digits_of ns) (10 ∷ []), first.1, second.1))
+    ∙ ap summed (sum_in-lines ms ns first second same m_small n_small)
+
+module _ (xs ys : List ℕ) (c : ℕ) (x_set : IsSet xs) (y_set : IsSet ys) (capacity : IsCapacity c) where
+  -- the sum of the sketches is a sketch
+  is_sketch : merged (sketch_of xs c) (sketch_of ys c) ≡ sketch_of (difference xs ys) c
+  is_sketch = merged-sketches 32 xs ys c x_set.1 y_set.1
+
+  fits : (es : List ℕ) → IsCapacity (length (sketch_of es c))
+  fits es = rw (length-sketch es c) capacity
+
+  -- its line, decoded
+  pub difference_decoded : length (difference xs ys) ≤ c
+      → answer_to command.Decode (line (digits_of (merged (sketch_of xs c) (sketch_of ys c)))) ≡ record { status = status.Ok; text = set_text (difference xs ys) }
+  difference_decoded few =
+      line_decoded (merged (sketch_of xs c) (sketch_of ys c)) (difference xs ys)
+      (rw is_sketch (fits (difference xs ys)))
+      (rw is_sketch (sums_small (difference xs ys) c (λ k d within. (of_difference (λ e. (0 < e) × (e < 2 ^ 32)) xs ys x_set.0 y_set.0 k d within).1)))
+      (difference_answers xs ys c x_set y_set few)
+
+  -- the lines of the sketches, merged and decoded
+  pub difference_found : length (difference xs ys) ≤ c → length (set_text xs) ≤ input_limit → length (set_text ys) ≤ input_limit
+      → answer_to command.Decode (answer_to command.Merge ((answer_to (command.Make c) (set_text xs)).text ++ (answer_to (command.Make c) (set_text ys)).text)).text
+      ≡ record { status = status.Ok; text = set_text (difference xs ys) }
+  difference_found few x_short y_short =
+      ap (λ sums. answer_to command.Decode (answer_to command.Merge sums).text)
+      (ap (λ (a : Answer). a.text ++ (answer_to (command.Make c) (set_text ys)).text) (set_made xs c x_set x_short) ∙ ap (λ (a : Answer). line (digits_of (sketch_of xs c)) ++ a.text) (set_made ys c y_set y_short))
+      ∙ ap (λ (a : Answer). answer_to command.Decode a.text)
+      (lines_merged (sketch_of xs c) (sketch_of ys c) (fits xs) (fits ys) (length-sketch xs c ∙ sym (length-sketch ys c)) (small xs x_set) (small ys y_set))
+      ∙ difference_decoded few
+    where
+      small : (es : List ℕ) → IsSet es → All (λ s. s < 2 ^ 32) (sketch_of es c)
+      small es set = sums_small es c (λ k d within. (set.0 k d within).1)
