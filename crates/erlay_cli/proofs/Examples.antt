@@ -1,11 +1,19 @@
 -- Worked examples, computed from the definitions alone.
-use Rattle.std.proofs.Common.{◌≡◌, [], ◌∷◌, ◌++◌, Ok, Err, refl}
-use Rattle.std.specs.Prelude.{codes}
-use Rattle.hex.specs.Hex.{decode_pairs}
+use Rattle.std.proofs.Common.{◌≡◌, [], ◌∷◌, ◌++◌, Ok, Err, refl, ap, ◌∙◌, lit<, lit≤}
+use Rattle.std.specs.Prelude.{codes, Some, None}
+use Rattle.hex.specs.Hex.{decode_pairs, encode_with}
 use Rattle.base_types.specs.declared.text.Kind.TheVariants as kind
+use Rattle.sketch_rules.specs.Ops.{power, power_sum, sums_from}
+use Rattle.sketch_rules.specs.Elements.{carryless_below, product, remainder}
 use Rattle.sketch_rules.specs.Sketches.{merged, sums_in}
+use Rattle.sketch_rules.specs.Answers.{Rises, answer_of}
+use Rattle.sketch_laws.proofs.Unique.{answer_at-is}
+use Rattle.field_core.specs.Gf32.{bits_of, field, numbered as gf_numbered, ops, ring}
 use Rattle.line_rules.specs.Lines.{line, lines, numbered}
-use Rattle.erlay_cli.specs.SketchLines.{sum_in}
+use Rattle.erlay_cli.specs.declared.command.Command.TheVariants as command
+use Rattle.erlay_cli.specs.declared.status.Status.TheVariants as status
+use Rattle.erlay_cli.specs.SketchLines.{sketch_in, sum_in}
+use Rattle.erlay_cli.specs.Answers.{decoded, found, work_of}
 
 -- the sketches of 1, 2 and of 2
 sum : sum_in (line (codes "0300000009000000") ++ line (codes "0200000008000000")) ≡ Ok (1 ∷ 1 ∷ [])
@@ -29,3 +37,44 @@ lone = refl
 counted : sum_in (line (codes "x")) ≡ Err (record { place = 1; kind = kind.LineCount })
 unfolding lines numbered
 counted = refl
+
+-- ---- decode
+
+two_sums : sketch_in (line (codes "0300000009000000")) ≡ Ok (3 ∷ 9 ∷ [])
+unfolding lines numbered decode_pairs sums_in
+two_sums = refl
+
+odd : sketch_in (line (codes "0300000")) ≡ Err (record { place = 1; kind = kind.OddDigits })
+unfolding lines numbered decode_pairs
+odd = refl
+
+-- CR before LF is no digit, and an empty line counts
+no_digit : sketch_in (line [] ++ codes "0300x0" ++ 13 ∷ 10 ∷ []) ≡ Err (record { place = 2; kind = kind.BadDigit })
+unfolding lines numbered decode_pairs
+no_digit = refl
+
+ragged_line : sketch_in (codes "030000000900") ≡ Err (record { place = 1; kind = kind.RaggedLength 6 })
+unfolding lines numbered decode_pairs
+ragged_line = refl
+
+no_line : sketch_in [] ≡ Err (record { place = 0; kind = kind.LineCount })
+unfolding lines numbered
+no_line = refl
+
+two_lines : sketch_in (line (codes "x") ++ line (codes "03000000")) ≡ Err (record { place = 2; kind = kind.LineCount })
+unfolding lines numbered
+two_lines = refl
+
+-- 1 and 2 have this sketch, and so no other set has
+answer : answer_of (3 ∷ 9 ∷ []) ≡ Some (1 ∷ 2 ∷ [])
+unfolding product remainder carryless_below power power_sum sums_from Rises
+answer = answer_at-is ops bits_of 32 ring field gf_numbered (3 ∷ 9 ∷ []) (1 ∷ 2 ∷ []) (record { rises = (lit≤ tt, lit< tt, (lit≤ tt, lit< tt, tt)); few = lit≤ tt; sketched = refl })
+
+written : work_of command.Decode (line (codes "0300000009000000")) ≡ record { status = status.Ok; text = line (codes "00000001") ++ line (codes "00000002") }
+unfolding encode_with
+written = ap decoded two_sums ∙ ap found answer
+
+-- nothing computes that no set has a sketch
+none_written : answer_of (0 ∷ 6 ∷ []) ≡ None → work_of command.Decode (line (codes "0000000006000000")) ≡ record { status = status.NoSet; text = line (codes "no set") }
+unfolding lines numbered decode_pairs sums_in
+none_written none = ap found none
