@@ -7,7 +7,7 @@ use Rattle.sketch_rules.specs.Elements.{numbers}
 use Rattle.sketch_rules.specs.Sets.{difference}
 use Rattle.sketch_rules.specs.Sketches.{IsCapacity, digits_of, merged, sketch_of}
 use Rattle.sketch_rules.specs.Answers.{Answer as SketchAnswer}
-use Rattle.sketch_laws.proofs.EverySums.{length-sums_from}
+use Rattle.sketch_laws.proofs.Differences.{length-sketch_at, of_difference, difference_answers}
 use Rattle.sketch_laws.proofs.Merging.{merged-sketches}
 use Rattle.sketch_laws.proofs.NumberedLists.{elements_of}
 use Rattle.sketch_laws.proofs.Rising.{Rises-from_AllPairs}
@@ -28,44 +28,12 @@ use Rattle.erlay_cli.proofs.Spelled.{length-digits_of, sketch_in-line, sum_in-li
 
 -- ---- sketches
 
--- a sketch of capacity c has c sums
-length-sketch : (es : List ℕ) (c : ℕ) → length (sketch_of es c) ≡ c
-length-sketch es c = length-sums_from (numbers 32) es 0 c
-
 -- each is an element
 sums_small : (es : List ℕ) (c : ℕ) → All (λ e. e < 2 ^ 32) es → All (λ s. s < 2 ^ 32) (sketch_of es c)
 sums_small es c small =
     let made = elements_of ops bits_of 32 numbered es small in
     let same : map bits_of (sketch_by ops made.0 c) ≡ sketch_of es c = sketch_by-numbers ops bits_of 32 numbered made.0 c ∙ ap (λ ns. sketch_of ns c) made.1 in
     subst (λ (ns : List ℕ). All (λ s. s < 2 ^ 32) ns) same (below (sketch_by ops made.0 c))
-
--- ---- the difference of two sets
-
--- what holds of the members of both holds of those of the difference
-of_difference : (P : ℕ → Type 0) (xs ys : List ℕ) → All P xs → All P ys → All P (difference xs ys)
-of_difference P xs ys in_xs in_ys k d within =
-    let n = get_or (difference xs ys) k d in
-    elim (difference-from xs ys n (has-from_Contains (difference xs ys) n (Contains-get_or (difference xs ys) k d within))) [
-      | inl one ↦ of_member xs n in_xs (Contains-from_has xs n one)
-      | inr other ↦ of_member ys n in_ys (Contains-from_has ys n other)
-    ]
-  where
-    of_member : (zs : List ℕ) (n : ℕ) → All P zs → Contains zs n → P n
-    of_member zs n all (k, within, here) = subst P here (all k n within)
-
--- it answers the sum of the sketches
-difference_answers : (xs ys : List ℕ) (c : ℕ) → IsSet xs → IsSet ys → length (difference xs ys) ≤ c
-    → SketchAnswer 32 (merged (sketch_of xs c) (sketch_of ys c)) (difference xs ys)
-difference_answers xs ys c x_set y_set few =
-    subst (λ (sums : List ℕ). SketchAnswer 32 sums (difference xs ys)) (sym (merged-sketches 32 xs ys c x_set.1 y_set.1))
-    (record {
-      rises = Rises-from_AllPairs 1 (2 ^ 32) (difference xs ys) (λ k d within. (members k d within).0) (λ k d within. (members k d within).1) (difference-rises xs ys x_set.1 y_set.1);
-      few = omega (arith, few, length-sketch (difference xs ys) c);
-      sketched = ap (sketch_of (difference xs ys)) (length-sketch (difference xs ys) c);
-    })
-  where
-    members : All (λ e. (0 < e) × (e < 2 ^ 32)) (difference xs ys)
-    members = of_difference (λ e. (0 < e) × (e < 2 ^ 32)) xs ys x_set.0 y_set.0
 
 -- ---- the commands
 
@@ -99,7 +67,7 @@ module _ (xs ys : List ℕ) (c : ℕ) (x_set : IsSet xs) (y_set : IsSet ys) (cap
   is_sketch = merged-sketches 32 xs ys c x_set.1 y_set.1
 
   fits : (es : List ℕ) → IsCapacity (length (sketch_of es c))
-  fits es = rw (length-sketch es c) capacity
+  fits es = rw (length-sketch_at 32 es c) capacity
 
   -- its line, decoded
   pub difference_decoded : length (difference xs ys) ≤ c
@@ -108,7 +76,7 @@ module _ (xs ys : List ℕ) (c : ℕ) (x_set : IsSet xs) (y_set : IsSet ys) (cap
       line_decoded (merged (sketch_of xs c) (sketch_of ys c)) (difference xs ys)
       (rw is_sketch (fits (difference xs ys)))
       (rw is_sketch (sums_small (difference xs ys) c (λ k d within. (of_difference (λ e. (0 < e) × (e < 2 ^ 32)) xs ys x_set.0 y_set.0 k d within).1)))
-      (difference_answers xs ys c x_set y_set few)
+      (difference_answers 32 xs ys c x_set.0 y_set.0 x_set.1 y_set.1 few)
 
   -- the lines of the sketches, merged and decoded
   pub difference_found : length (difference xs ys) ≤ c → length (set_text xs) ≤ input_limit → length (set_text ys) ≤ input_limit
@@ -118,7 +86,7 @@ module _ (xs ys : List ℕ) (c : ℕ) (x_set : IsSet xs) (y_set : IsSet ys) (cap
       ap (λ sums. answer_to command.Decode (answer_to command.Merge sums).text)
       (ap (λ (a : Answer). a.text ++ (answer_to (command.Make c) (set_text ys)).text) (set_made xs c x_set x_short) ∙ ap (λ (a : Answer). line (digits_of (sketch_of xs c)) ++ a.text) (set_made ys c y_set y_short))
       ∙ ap (λ (a : Answer). answer_to command.Decode a.text)
-      (lines_merged (sketch_of xs c) (sketch_of ys c) (fits xs) (fits ys) (length-sketch xs c ∙ sym (length-sketch ys c)) (small xs x_set) (small ys y_set))
+      (lines_merged (sketch_of xs c) (sketch_of ys c) (fits xs) (fits ys) (length-sketch_at 32 xs c ∙ sym (length-sketch_at 32 ys c)) (small xs x_set) (small ys y_set))
       ∙ difference_decoded few
     where
       small : (es : List ℕ) → IsSet es → All (λ s. s < 2 ^ 32) (sketch_of es c)

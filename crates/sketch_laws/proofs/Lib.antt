@@ -2,6 +2,7 @@ pub mod Bytes
 pub mod Carryless
 pub mod Certified32
 pub mod Conjugates
+pub mod Differences
 pub mod Dots
 pub mod EverySums
 pub mod Fields

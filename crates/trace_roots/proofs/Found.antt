@@ -1,15 +1,13 @@
 -- The steps of finding all members.
-use Rattle.std.proofs.Common.{◌≡◌, ◌≢◌, ◌⊎◌, inl, inr, ℕ, zero, suc, ◌+◌, ◌-◌, ◌*◌, ◌^◌, ◌<◌, ◌≤◌, List, [], ◌∷◌, ◌++◌, length, get_or, refl, sym, ap, subst, ◌∙◌, arith, append_assoc, Option, Some, true, false}
+use Rattle.std.proofs.Common.{◌≡◌, ◌≢◌, ℕ, ◌+◌, ◌*◌, ◌^◌, ◌<◌, ◌≤◌, List, [], ◌∷◌, ◌++◌, length, get_or, refl, sym, ap, subst, ◌∙◌, arith, append_assoc, Option, Some, true, false}
 use Rattle.std.specs.Prelude.{IfSome}
-use Rattle.std.specs.List.{All}
 use Rattle.std.specs.List.Sorted.{IsPermutation}
-use Rattle.std.proofs.lemmas.List.{get_or_default}
-use Rattle.std.proofs.lemmas.List.Sorted.{IsPermutation-refl, IsPermutation-trans, IsPermutation-append}
+use Rattle.std.proofs.lemmas.List.Sorted.{IsPermutation-trans, IsPermutation-append}
 use Rattle.std.proofs.lemmas.Nat.{pow_below}
-use Rattle.sketch_rules.specs.Ops.{Ops, IsRing, power_sum, every_sum}
-use Rattle.sketch_rules.specs.Fields.{IsToldApart, trace_of}
+use Rattle.sketch_rules.specs.Ops.{Ops, IsRing, power_sum}
+use Rattle.sketch_rules.specs.Fields.{IsToldApart}
 use Rattle.sketch_rules.specs.Numbered.{IsNumbered}
-use Rattle.poly_rules.specs.Polynomials.{degree, value_at}
+use Rattle.poly_rules.specs.Polynomials.{value_at}
 use Rattle.sketch_laws.proofs.RingFacts.{times_zero}
 use Rattle.splitting_laws.specs.Alike.{IsAlike}
 use Rattle.splitting_laws.proofs.Alike.{alike_end, alike_more}

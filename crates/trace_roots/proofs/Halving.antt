@@ -1,8 +1,7 @@
 -- How a trace polynomial parts a set.
-use Rattle.std.proofs.Common.{◌≡◌, ◌≢◌, ◌⊎◌, inl, inr, ℕ, zero, suc, ◌+◌, ◌-◌, ◌*◌, ◌^◌, ◌<◌, ◌≤◌, Bool, true, false, not, cond, List, [], ◌∷◌, ◌++◌, length, get_or, reverse, refl, sym, ap, subst, ◌∙◌, arith}
+use Rattle.std.proofs.Common.{◌≡◌, ◌⊎◌, inl, inr, ℕ, zero, suc, ◌+◌, ◌-◌, ◌*◌, ◌^◌, ◌<◌, ◌≤◌, Bool, true, false, not, cond, List, [], ◌∷◌, ◌++◌, length, get_or, reverse, refl, sym, ap, subst, ◌∙◌, arith}
 use Rattle.std.specs.Prelude.{nat_eq, filter}
-use Rattle.std.specs.List.{All, AllPairs}
-use Rattle.std.specs.List.Sorted.{IsPermutation}
+use Rattle.std.specs.List.{All}
 use Rattle.std.proofs.lemmas.List.{get_or_past}
 use Rattle.std.proofs.lemmas.List.Elements.{All-filter}
 use Rattle.std.proofs.lemmas.List.Sorted.{IsPermutation-trans, IsPermutation-append_comm}
@@ -20,7 +19,7 @@ use Rattle.splitting_laws.proofs.Recurrences.{smaller_part, shortest_within}
 use Rattle.splitting_laws.proofs.Returns.{constant_of_values}
 use Rattle.splitting_laws.proofs.Windows.{length-every_sum, get_or-every_sum}
 use Rattle.trace_roots.specs.Added.{AreAdded}
-use Rattle.trace_roots.specs.Parts.{IsSet, AreTraces, IsPart, AreSides, AreHalves, IsSmaller, IsSplit}
+use Rattle.trace_roots.specs.Parts.{IsSet, AreTraces, IsPart, AreSides, IsSmaller, IsSplit}
 
 -- a test that nothing passes fails everywhere
 none_pass : {A : Type 0} (p : A → Bool) (xs : List A) → length (filter p xs) ≡ 0 → All (λ x. p x ≡ false) xs

@@ -1,5 +1,6 @@
 mod Answering
 mod Ascending
+mod Decoded
 mod Equal
 mod Found
 mod Halving

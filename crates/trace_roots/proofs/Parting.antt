@@ -1,10 +1,10 @@
 -- What is known of the parts of a set.
-use Rattle.std.proofs.Common.{◌≡◌, ◌≢◌, ◌⊎◌, inl, inr, ℕ, zero, suc, ◌+◌, ◌-◌, ◌*◌, ◌^◌, ◌<◌, ◌≤◌, List, [], ◌∷◌, ◌++◌, length, get_or, take, drop, reverse, refl, sym, ap, subst, ◌∙◌, arith}
-use Rattle.std.specs.List.{All, AllPairs}
+use Rattle.std.proofs.Common.{◌≡◌, ℕ, suc, ◌+◌, ◌*◌, ◌<◌, ◌≤◌, List, [], ◌∷◌, length, get_or, take, reverse, sym, ap, subst, ◌∙◌, arith}
+use Rattle.std.specs.List.{All}
 use Rattle.std.proofs.lemmas.List.{length-take-le, get_or_default, ext_get_or}
 use Rattle.sketch_rules.specs.Ops.{Ops, IsRing, power_sum, every_sum}
-use Rattle.sketch_rules.specs.Fields.{IsField, trace_of}
-use Rattle.poly_rules.specs.Polynomials.{coefficient, degree, IsMonic, value_at}
+use Rattle.sketch_rules.specs.Fields.{IsField}
+use Rattle.poly_rules.specs.Polynomials.{coefficient, degree, IsMonic}
 use Rattle.poly_rules.specs.Remainders.{IsRemainder}
 use Rattle.poly_rules.specs.Roots.{IsRoot, with_roots}
 use Rattle.poly_laws.proofs.Roots.{with_roots-monic, with_roots-root}
@@ -15,7 +15,7 @@ use Rattle.splitting_laws.proofs.Windows.{length-every_sum, get_or-every_sum}
 use Rattle.splitting_laws.proofs.Recurrences.{monic_of_recurrence, shortest_of_set}
 use Rattle.splitting_laws.proofs.Extensions.{sums_extended}
 use Rattle.trace_roots.specs.Added.{AreAdded}
-use Rattle.trace_roots.specs.Parts.{Fits, IsSet, IsTrace, AreTraces, IsPart, AreHalves}
+use Rattle.trace_roots.specs.Parts.{Fits, IsSet, AreTraces, IsPart, AreHalves}
 
 -- each polynomial is the remainder of the one at its place
 pub record AreRemainders {A : Type 0} (ops : Ops A) (f : List A) (traces rests : List (List A)) : Type 0 where

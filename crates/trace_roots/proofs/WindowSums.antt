@@ -1,5 +1,5 @@
 -- Sums of products with the windows of a list, one coefficient more.
-use Rattle.std.proofs.Common.{◌≡◌, ℕ, zero, suc, ◌+◌, ◌<◌, ◌≤◌, List, [], ◌∷◌, ◌++◌, length, get_or, take, drop, replicate, refl, sym, ap, subst, ◌∙◌, arith, add-one, length-drop}
+use Rattle.std.proofs.Common.{◌≡◌, ℕ, zero, suc, ◌+◌, ◌<◌, ◌≤◌, List, [], ◌∷◌, ◌++◌, length, get_or, take, drop, replicate, refl, sym, ap, ◌∙◌, arith, add-one, length-drop}
 use Rattle.std.proofs.lemmas.List.{length-take-le, length-map, length-replicate, get_or-replicate, get_or-take, get_or-drop}
 use Rattle.sketch_rules.specs.Ops.{Ops, IsRing}
 use Rattle.sketch_rules.specs.Fields.{with_multiple, dot_of}

@@ -1,11 +1,8 @@
-use Rattle.std.proofs.Common.{◌≡◌, ℕ, ◌+◌, ◌-◌, ◌^◌, ◌<◌, ◌≤◌, List, [], ◌∷◌, ◌++◌, length, true, false, sym, ap, subst, ◌∙◌, arith}
-use Rattle.std.specs.Prelude.{IsSome, IsTrue}
-use Rattle.std.specs.List.{All}
+use Rattle.std.proofs.Common.{◌≡◌, ◌+◌, ◌^◌, ◌<◌, List, [], ◌∷◌, ◌++◌, length, true, false, sym, ap, subst, ◌∙◌, arith}
+use Rattle.std.specs.Prelude.{IsSome}
 use Rattle.std.specs.List.Sorted.{IsPermutation}
 use Rattle.std.proofs.lemmas.Result.{on_ok_weaker}
 use Rattle.std.proofs.lemmas.List.Sorted.{IsPermutation-refl}
-use Rattle.sketch_rules.specs.Fields.{trace_of}
-use Rattle.poly_rules.specs.Polynomials.{value_at}
 use Rattle.splitting_laws.specs.Alike.{IsAlike}
 use Rattle.trace_roots.specs.Parts.{IsTrace, IsPart, IsSplit}
 use Rattle.trace_roots.proofs.Found.{at_some, lone_member, end_of_basis, basis_at, not_apart, found_of_both, never}

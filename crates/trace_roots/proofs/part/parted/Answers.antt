@@ -1,4 +1,4 @@
-use Rattle.std.proofs.Common.{◌≡◌, ◌+◌, ◌-◌, ◌*◌, ◌≤◌, ℕ, List, ◌∷◌, length, take, reverse, sym, ap, subst, ◌∙◌, arith}
+use Rattle.std.proofs.Common.{◌≡◌, ◌+◌, ◌-◌, ◌*◌, ◌∷◌, length, take, reverse, sym, ap, subst, ◌∙◌, arith}
 use Rattle.sketch_rules.specs.Ops.{every_sum}
 use Rattle.poly_rules.specs.Roots.{with_roots}
 use Rattle.poly_rules.specs.Recurrences.{IsShortest}

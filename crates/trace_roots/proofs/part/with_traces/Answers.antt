@@ -1,6 +1,6 @@
-use Rattle.std.proofs.Common.{◌≡◌, ◌-◌, ◌*◌, length, take, ap, ◌∙◌}
+use Rattle.std.proofs.Common.{◌*◌, take, ap, ◌∙◌}
 use Rattle.poly_rules.specs.Polynomials.{degree}
-use Rattle.trace_roots.proofs.Parting.{AreRemainders, remainders_fit, remainders_part}
+use Rattle.trace_roots.proofs.Parting.{remainders_fit, remainders_part}
 use Rattle.trace_roots.proofs.part.with_traces.Goals as goal
 
 pub returns-clause-fits : goal.returns-clause-fits

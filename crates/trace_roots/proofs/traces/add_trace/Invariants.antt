@@ -1,4 +1,4 @@
-use Rattle.std.proofs.Common.{◌≡◌, length}
+use Rattle.std.proofs.Common.{◌≡◌}
 use Rattle.sketch_rules.specs.Fields.{conjugate}
 use Rattle.poly_rules.specs.Polynomials.{Same}
 use Rattle.splitting_laws.specs.Traces.{trace_polynomial}

@@ -1,7 +1,7 @@
-use Rattle.std.proofs.Common.{◌≡◌, ℕ, ◌<◌, ◌≤◌, ◌+◌, [], length, get_or, sym, ap, subst, ◌∙◌, arith, Bool, true, false}
+use Rattle.std.proofs.Common.{◌≡◌, ◌<◌, [], length, get_or, sym, ap, subst, ◌∙◌, arith}
 use Rattle.std.specs.List.{All}
 use Rattle.std.proofs.lemmas.List.{get_or_default}
-use Rattle.poly_rules.specs.Polynomials.{Same, degree}
+use Rattle.poly_rules.specs.Polynomials.{Same}
 use Rattle.poly_rules.specs.Roots.{IsRoot}
 use Rattle.poly_laws.proofs.Roots.{with_roots-root}
 use Rattle.splitting_laws.proofs.Returns.{frobenius_returns_at}

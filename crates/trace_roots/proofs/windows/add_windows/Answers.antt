@@ -1,4 +1,4 @@
-use Rattle.std.proofs.Common.{◌+◌, ◌-◌, length, take, drop, arith}
+use Rattle.std.proofs.Common.{◌+◌, ◌-◌, length, arith}
 use Rattle.trace_roots.proofs.WindowSums.{no_windows, more_windows}
 use Rattle.trace_roots.proofs.windows.add_windows.Goals as goal
 

@@ -1,4 +1,4 @@
-use Rattle.std.proofs.Common.{◌≡◌, ◌-◌, ◌++◌, length, take, drop, refl, sym, subst, arith, rules}
+use Rattle.std.proofs.Common.{◌≡◌, ◌++◌, length, take, drop, refl, sym, subst, arith, rules}
 use Rattle.std.proofs.lemmas.List.{take_at}
 use Rattle.trace_roots.specs.Added.{AreAdded}
 use Rattle.trace_roots.proofs.WindowSums.{added}
