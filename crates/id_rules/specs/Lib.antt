@@ -1,0 +1,2 @@
+pub mod SipHash
+pub mod Ids
