@@ -1,23 +1,23 @@
 -- Worked examples, computed from the definitions alone.
-use Rattle.std.proofs.Common.{◌≡◌, [], ◌∷◌, refl}
+use Rattle.std.proofs.Common.{◌≡◌, refl}
 use Rattle.std.specs.Prelude.{codes}
-use Rattle.hex.specs.Hex.{encode_lower, encode_with}
-use Rattle.sha2.specs.Sha256.{sha256, digest_bytes, hash_after, compress, rounds, schedule, first_words}
-use Rattle.id_rules.specs.SipHash.{half_round, absorbed, words_of, finished, sip24}
+use Rattle.hex.specs.Hex.{encode_lower}
+use Rattle.id_rules.specs.SipHash.{sip24}
 use Rattle.id_rules.specs.Ids.{KeyPair, wtxid, keys_of, short_id}
+use Rattle.id_rules.proofs.Samples.{hashing, sipping, from_digits}
 
 -- the paper's test vector, of appendix A: a key of the bytes 00 to 0f, a message of the bytes 00 to 0e
-vector : sip24 0x0706050403020100 0x0f0e0d0c0b0a0908 (0 ∷ 1 ∷ 2 ∷ 3 ∷ 4 ∷ 5 ∷ 6 ∷ 7 ∷ 8 ∷ 9 ∷ 10 ∷ 11 ∷ 12 ∷ 13 ∷ 14 ∷ []) ≡ 0xa129ca6149be45e5
-unfolding half_round absorbed words_of finished
+vector : sip24 0x0706050403020100 0x0f0e0d0c0b0a0908 (from_digits (codes "000102030405060708090a0b0c0d0e")) ≡ 0xa129ca6149be45e5
+unfolding hashing sipping
 vector = refl
 
 -- the ids of the bytes of 'hello' and 'abc'
 hello : encode_lower (wtxid (codes "hello")).0 ≡ codes "9595c9df90075148eb06860365df33584b75bff782a510c6cd4883a419833d50"
-unfolding sha256 digest_bytes hash_after compress rounds schedule first_words encode_with
+unfolding hashing
 hello = refl
 
 abc : encode_lower (wtxid (codes "abc")).0 ≡ codes "4f8b42c22dd3729b519ba6f68d2da7cc5b2d606d05daed5ad5128cc03e6c6358"
-unfolding sha256 digest_bytes hash_after compress rounds schedule first_words encode_with
+unfolding hashing
 abc = refl
 
 -- the key of the salts 1 and 2, in both orders
@@ -25,18 +25,18 @@ abbrev key : KeyPair
 key = record { k0 = 0x5a63d27439e052a4; k1 = 0xc8daf59f8d6921b9 }
 
 keys : keys_of 1 2 ≡ key
-unfolding sha256 digest_bytes hash_after compress rounds schedule first_words
+unfolding hashing
 keys = refl
 
 keys_exchanged : keys_of 2 1 ≡ key
-unfolding sha256 digest_bytes hash_after compress rounds schedule first_words
+unfolding hashing
 keys_exchanged = refl
 
 -- the short ids of 'hello' and 'abc' under it
 hello_short : short_id key (wtxid (codes "hello")) ≡ 0xd977c38b
-unfolding sha256 digest_bytes hash_after compress rounds schedule first_words half_round absorbed words_of finished
+unfolding hashing sipping
 hello_short = refl
 
 abc_short : short_id key (wtxid (codes "abc")) ≡ 0x7d73875b
-unfolding sha256 digest_bytes hash_after compress rounds schedule first_words half_round absorbed words_of finished
+unfolding hashing sipping
 abc_short = refl

@@ -1,0 +1,7 @@
+pub mod Commands
+pub mod Layout
+pub mod Limits
+pub mod Reading
+pub mod Stream
+pub mod Shown
+pub mod ShownReading
