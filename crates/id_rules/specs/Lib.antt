@@ -1,2 +1,3 @@
+pub mod Bytes
 pub mod SipHash
 pub mod Ids

@@ -2,6 +2,7 @@
 use Rattle.std.specs.Prelude.{ℕ, ◌^◌, ◌≤◌, ◌==◌, ◌&&◌, nat_lt, nat_le, not, is_some, Bool, true, IsTrue, List, length, ℤ, pos, negsuc, Some, None}
 use Rattle.std.specs.List.{list_all}
 use Rattle.std.specs.declared.option.Option.{Option}
+use Rattle.id_rules.specs.Bytes.{are_bytes, is_tx_length}
 use Rattle.wire_rules.specs.Commands.{is_command, name_at}
 use Rattle.wire_rules.specs.declared.limits.TheConstants.{PAYLOAD_LIMIT, LIST_LIMIT, AGENT_LIMIT}
 use Rattle.wire_rules.specs.declared.frame.Frame.{Frame}
@@ -9,10 +10,6 @@ use Rattle.wire_rules.specs.declared.message.InvEntry.{InvEntry}
 use Rattle.wire_rules.specs.declared.message.VersionMsg.{VersionMsg}
 use Rattle.wire_rules.specs.declared.message.Message.{Message}
 use Rattle.wire_rules.specs.declared.message.Message.TheVariants as message
-
--- a transaction has at least one byte, and fits a payload
-abbrev pub is_tx_length : ℕ → Bool
-is_tx_length n = nat_lt 0 n && nat_le n PAYLOAD_LIMIT
 
 -- counts and lengths are within their limits; another command is a command field and none that is known
 unfoldable pub within_limits : Message → Bool
@@ -27,9 +24,6 @@ within_limits (message.Other command payload) = is_command command && not (is_so
 within_limits other = true
 
 -- the ranges that the types of a message's fields have
-
-abbrev pub are_bytes : List ℕ → Bool
-are_bytes bytes = list_all (λ b. nat_lt b (2 ^ 8)) bytes
 
 -- so many bytes
 abbrev pub are_bytes_of : ℕ → List ℕ → Bool

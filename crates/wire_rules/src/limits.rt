@@ -3,7 +3,7 @@
 /// Bytes of a frame before its payload: magic, command, length and checksum.
 pub const HEADER_LEN: usize = 24;
 
-/// Bytes of a payload, and so of a transaction.
+/// Bytes of a payload.
 pub const PAYLOAD_LIMIT: usize = 4_000_000;
 
 /// Entries of a counted list in a payload, and bytes of a sketch in one.

@@ -1,0 +1,151 @@
+-- Worked examples, computed from the definitions alone.
+use Rattle.std.proofs.Common.{◌≡◌, ℕ, List, [], ◌∷◌, ◌++◌, refl, Ok, Err, Some, None, Result}
+use Rattle.std.specs.Prelude.{codes}
+use Rattle.base_types.specs.declared.lists.Hash32.{Hash32}
+use Rattle.base_types.specs.declared.text.Kind.{Kind}
+use Rattle.base_types.specs.declared.text.Kind.TheVariants as kind
+use Rattle.base_types.specs.declared.text.TextFault.{TextFault}
+use Rattle.pool_rules.specs.Pools.{Held, held, insertion}
+use Rattle.pool_rules.specs.Snapshots.{Member, Apart, sketched, aside, by_short, snapshot_sketch, snapshot_sums, gap}
+use Rattle.pool_rules.specs.Capacity.{capacity, next_q, next_q_failed}
+use Rattle.pool_rules.specs.PoolFile.{pool_text, pool_in}
+use Rattle.pool_rules.specs.declared.insertion.Inserted.TheVariants as inserted
+use Rattle.pool_rules.proofs.Samples.{sketching, pooling, hello_id, abc_id}
+
+-- capacities: of empty sets, of sets of 100 and 120 members, of 2000 and 2010, and the greatest one
+least : capacity 0 0 0 ≡ 8
+least = refl
+
+estimated : capacity 100 120 8192 ≡ 46
+estimated = refl
+
+thousands : capacity 2000 2010 8192 ≡ 511
+thousands = refl
+
+greatest : capacity 10000 0 0 ≡ 1024
+greatest = refl
+
+-- coefficients
+all_differ : next_q 1 1 1 ≡ 65534
+all_differ = refl
+
+no_members : next_q 0 0 0 ≡ 0
+no_members = refl
+
+rounded_up : next_q 10 20 100 ≡ 6554
+rounded_up = refl
+
+after_fallback : next_q_failed 8192 ≡ 16385
+after_fallback = refl
+
+after_many : next_q_failed 65534 ≡ 65534
+after_many = refl
+
+-- a snapshot of three ids with the short ids 5, 7 and 5: the first and the third are set aside
+abbrev other_id : Hash32
+other_id = record { 0 = [] }
+
+abbrev member : Hash32 → ℕ → Member
+member id short = record { id = id; short = short }
+
+abbrev three : List Member
+three = member hello_id 5 ∷ member abc_id 7 ∷ member other_id 5 ∷ []
+
+three_sketched : sketched three ≡ member abc_id 7 ∷ []
+unfolding pooling
+three_sketched = refl
+
+three_aside : aside three ≡ member hello_id 5 ∷ member other_id 5 ∷ []
+unfolding pooling
+three_aside = refl
+
+three_sums : snapshot_sketch three 2 ≡ 7 ∷ 0x6b ∷ []
+unfolding pooling sketching
+three_sums = refl
+
+-- the part from s_3 on extends the sketch of capacity 1
+three_extension : snapshot_sums three 1 1 ≡ 0x6b ∷ []
+unfolding pooling sketching
+three_extension = refl
+
+aside_unfound : by_short three 5 ≡ None
+unfolding pooling
+aside_unfound = refl
+
+single_found : by_short three 7 ≡ Some abc_id
+unfolding pooling
+single_found = refl
+
+-- what two snapshots have sketched and not in common. They are apart: the short id 7 is of one id in both
+abbrev two : List Member
+two = member abc_id 7 ∷ member hello_id 9 ∷ []
+
+three_gap : gap three two ≡ 9 ∷ []
+unfolding pooling sketching
+three_gap = refl
+
+three_apart : Apart three two
+unfolding pooling
+three_apart = ((λ same. refl, (λ same. absurd (cc), tt)), tt)
+
+-- a pool of one transaction: another one, and the same again
+abbrev one : List Held
+one = held (codes "hello") ∷ []
+
+another : insertion one (codes "abc") ≡ record { pool = held (codes "hello") ∷ held (codes "abc") ∷ []; inserted = inserted.New }
+unfolding pooling
+another = refl
+
+again : insertion one (codes "hello") ≡ record { pool = one; inserted = inserted.Present }
+unfolding pooling
+again = refl
+
+-- its text, both ways
+abbrev one_line : List ℕ
+one_line = codes "9595c9df90075148eb06860365df33584b75bff782a510c6cd4883a419833d50 68656c6c6f"
+
+one_text : pool_text one ≡ one_line ++ 10 ∷ []
+unfolding pooling
+one_text = refl
+
+one_read : pool_in (one_line ++ 10 ∷ []) ≡ Ok one
+unfolding pooling
+one_read = refl
+
+empty_read : pool_in [] ≡ Ok []
+unfolding pooling
+empty_read = refl
+
+-- the faults of lines
+abbrev bad : ℕ → Kind → Result (List Held) TextFault
+bad place k = Err (record { place = place; kind = k })
+
+twice : pool_in (one_line ++ 10 ∷ one_line) ≡ bad 2 kind.Repeated
+unfolding pooling
+twice = refl
+
+mismatched : pool_in (codes "9595c9df90075148eb06860365df33584b75bff782a510c6cd4883a419833d50 616263") ≡ bad 1 (kind.IdMismatch hello_id abc_id)
+unfolding pooling
+mismatched = refl
+
+-- 65 bytes; and 66 of which the 65th is no space
+too_short : pool_in (codes "9595c9df90075148eb06860365df33584b75bff782a510c6cd4883a419833d50 ") ≡ bad 1 kind.Form
+unfolding pooling
+too_short = refl
+
+no_space : pool_in (codes "9595c9df90075148eb06860365df33584b75bff782a510c6cd4883a419833d50:6") ≡ bad 1 kind.Form
+unfolding pooling
+no_space = refl
+
+-- a bad digit of the id comes before an odd number of digits, and that before a bad digit of the transaction
+bad_id : pool_in (10 ∷ codes "9595c9df90075148eb06860365df33584b75bff782a510c6cd4883a419833d5x 6") ≡ bad 2 kind.BadDigit
+unfolding pooling
+bad_id = refl
+
+odd : pool_in (codes "9595c9df90075148eb06860365df33584b75bff782a510c6cd4883a419833d50 x") ≡ bad 1 kind.OddDigits
+unfolding pooling
+odd = refl
+
+bad_tx : pool_in (codes "9595c9df90075148eb06860365df33584b75bff782a510c6cd4883a419833d50 6x") ≡ bad 1 kind.BadDigit
+unfolding pooling
+bad_tx = refl

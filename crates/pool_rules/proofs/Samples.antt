@@ -1,0 +1,34 @@
+-- What the worked examples share.
+use Rattle.std.specs.Prelude.{codes}
+use Rattle.std.specs.Fmt.{digits}
+use Rattle.base_types.specs.declared.lists.Hash32.{Hash32}
+use Rattle.line_rules.specs.Lines.{lines, numbered}
+use Rattle.line_rules.specs.Reading.{read_lines}
+use Rattle.sketch_rules.specs.Elements.{carryless_below, remainder, product}
+use Rattle.sketch_rules.specs.Ops.{power, power_sum, sums_from}
+use Rattle.sketch_rules.specs.Sets.{placed, ascending}
+use Rattle.id_rules.proofs.Samples.{hashing, from_digits}
+use Rattle.pool_rules.specs.Pools.{Distinct, insertion_by}
+use Rattle.pool_rules.specs.PoolFile.{pool_step}
+
+-- an example that has this in its line `unfolding` computes sums of sketches and differences of sets
+unfoldable pub sketching : Unit {0}
+unfolding carryless_below remainder product power power_sum sums_from placed ascending
+sketching = tt
+
+-- the same for lines of text
+unfoldable pub lining : Unit {0}
+unfolding lines numbered read_lines digits
+lining = tt
+
+-- the same for pools
+unfoldable pub pooling : Unit {0}
+unfolding hashing lining Distinct insertion_by pool_step
+pooling = tt
+
+-- the ids of the bytes of 'hello' and 'abc'
+abbrev pub hello_id : Hash32
+hello_id = record { 0 = from_digits (codes "9595c9df90075148eb06860365df33584b75bff782a510c6cd4883a419833d50") }
+
+abbrev pub abc_id : Hash32
+abc_id = record { 0 = from_digits (codes "4f8b42c22dd3729b519ba6f68d2da7cc5b2d606d05daed5ad5128cc03e6c6358") }

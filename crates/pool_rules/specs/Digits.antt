@@ -1,0 +1,26 @@
+-- Digits of bytes in a line of text.
+use Rattle.std.specs.Prelude.{ℕ, List, Ok, Err}
+use Rattle.std.specs.declared.result.Result.{Result}
+use Rattle.hex.specs.Hex.{decode_of}
+use Rattle.hex.specs.declared.error.FromHexError.{FromHexError}
+use Rattle.hex.specs.declared.error.FromHexError.TheVariants as hex
+use Rattle.base_types.specs.declared.text.Kind.{Kind}
+use Rattle.base_types.specs.declared.text.Kind.TheVariants as kind
+
+-- goes on behind a part of a line that is sound
+infixl 10 ◌>>=◌
+abbrev pub ◌>>=◌ : {A B : Type 0} → Result A Kind → (A → Result B Kind) → Result B Kind
+Ok x >>= next = next x
+Err k >>= next = Err k
+
+abbrev pub kind_of : FromHexError → Kind
+kind_of hex.OddLength = kind.OddDigits
+kind_of other = kind.BadDigit
+
+abbrev pub kinded : Result (List ℕ) FromHexError → Result (List ℕ) Kind
+kinded (Ok bytes) = Ok bytes
+kinded (Err e) = Err (kind_of e)
+
+-- the bytes that digits of either case spell, two digits each
+abbrev pub bytes_in : List ℕ → Result (List ℕ) Kind
+bytes_in text = kinded (decode_of text)
