@@ -1,10 +1,12 @@
 -- The commands of messages. In a frame a command fills 12 bytes (P2P protocol, message header); those of reconciliation
 -- are spelled as this project spells them.
-use Rattle.std.specs.Prelude.{ℕ, ◌-◌, ◌==◌, ◌&&◌, nat_le, Bool, true, false, if◌then◌else◌, List, [], ◌∷◌, ◌++◌, length, replicate, find, codes, bytes_eq}
+use Rattle.std.specs.Prelude.{ℕ, ◌-◌, ◌==◌, ◌&&◌, nat_le, Bool, true, false, if◌then◌else◌, List, [], ◌∷◌, ◌++◌, length, replicate, find, codes, bytes_eq, Some, None}
 use Rattle.std.specs.List.{list_all}
 use Rattle.std.specs.declared.option.Option.{Option}
 use Rattle.wire_rules.specs.declared.name.Name.{Name}
 use Rattle.wire_rules.specs.declared.name.Name.TheVariants as name
+use Rattle.wire_rules.specs.declared.message.Message.{Message}
+use Rattle.wire_rules.specs.declared.message.Message.TheVariants as message
 
 -- a command as it is written in a text
 unfoldable pub word_of : Name → List ℕ
@@ -58,3 +60,21 @@ begins_printable (b ∷ rest) = is_printable b
 -- a command field: 12 bytes, printable ones, at least one, and then only NUL
 abbrev pub is_command : List ℕ → Bool
 is_command bytes = (length bytes == 12) && begins_printable bytes && is_filled bytes
+
+-- the command of a message, where it is known
+unfoldable pub name_of : Message → Option Name
+name_of (message.Version v) = Some name.Version
+name_of message.Verack = Some name.Verack
+name_of message.WtxidRelay = Some name.WtxidRelay
+name_of (message.SendTxRcncl version salt) = Some name.SendTxRcncl
+name_of (message.ReqRecon size q) = Some name.ReqRecon
+name_of (message.Sketch bytes) = Some name.Sketch
+name_of message.ReqSketchExt = Some name.ReqSketchExt
+name_of (message.ReconcilDiff success asks) = Some name.ReconcilDiff
+name_of (message.Inv es) = Some name.Inv
+name_of (message.GetData es) = Some name.GetData
+name_of (message.NotFound es) = Some name.NotFound
+name_of (message.Tx tx) = Some name.Tx
+name_of (message.Ping n) = Some name.Ping
+name_of (message.Pong n) = Some name.Pong
+name_of (message.Other command payload) = None

@@ -1,0 +1,4 @@
+pub mod Samples
+pub mod HandshakeExamples
+pub mod RoundExamples
+pub mod WantExamples

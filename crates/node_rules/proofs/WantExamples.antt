@@ -1,0 +1,99 @@
+-- Worked examples of announcements, requests, transactions and additions. A full pool, of 20,000 transactions, is out of
+-- the checker's reach here.
+use Rattle.std.proofs.Common.{◌≡◌, List, [], ◌∷◌, refl, true, Some}
+use Rattle.std.specs.Prelude.{codes}
+use Rattle.wire_rules.specs.declared.message.Message.TheVariants as message
+use Rattle.wire_rules.proofs.Samples.{hello_id, abc_id, entry}
+use Rattle.pool_rules.specs.Pools.{Held}
+use Rattle.node_rules.specs.Additions.{adds}
+use Rattle.node_rules.specs.State.{NodeState}
+use Rattle.node_rules.specs.Steps.{takes, takes_all}
+use Rattle.node_rules.specs.declared.added.Added.TheVariants as added
+use Rattle.node_rules.specs.declared.end.End.TheVariants as end
+use Rattle.node_rules.proofs.Samples.{stepping, new_opener, new_accepter, hello, abc, introduced}
+
+abbrev accepter_with : List Held → NodeState
+accepter_with pool = (takes_all (new_accepter pool) (introduced 1)).state
+
+abbrev opener_with : List Held → NodeState
+opener_with pool = (takes_all (new_opener pool) (introduced 2)).state
+
+-- what is asked for twice, or by another kind, can't be served
+served_once : (takes (accepter_with (hello ∷ [])) (message.GetData (entry 5 hello_id ∷ entry 5 hello_id ∷ entry 1 hello_id ∷ []))).out ≡ message.Tx (codes "hello") ∷ message.NotFound (entry 5 hello_id ∷ entry 1 hello_id ∷ []) ∷ []
+unfolding stepping
+served_once = refl
+
+-- an accepter asks at once for what it lacks, each id once and of kind 5 alone
+asks_once : (takes (accepter_with []) (message.Inv (entry 1 abc_id ∷ entry 5 abc_id ∷ entry 5 abc_id ∷ []))).out ≡ message.GetData (entry 5 abc_id ∷ []) ∷ []
+unfolding stepping
+asks_once = refl
+
+abbrev asking : NodeState
+asking = (takes (accepter_with []) (message.Inv (entry 5 abc_id ∷ []))).state
+
+-- a transaction that wasn't asked for is passed over; one that was goes into the pool and not into the set
+unasked_tx : takes asking (message.Tx (codes "hello")) ≡ record { state = asking; out = [] }
+unfolding stepping
+unasked_tx = refl
+
+asked_tx : (takes asking (message.Tx (codes "abc"))).state ≡ record (accepter_with []) { pool = abc ∷ [] }
+unfolding stepping
+asked_tx = refl
+
+-- what the peer can't send is asked for no more
+not_found : (takes asking (message.NotFound (entry 5 abc_id ∷ []))).state ≡ accepter_with []
+unfolding stepping
+not_found = refl
+
+-- an opener wants it until its round is over, and an id that the pool has leaves the set
+wants : (takes (opener_with (hello ∷ [])) (message.Inv (entry 5 abc_id ∷ entry 5 hello_id ∷ []))).out ≡ []
+unfolding stepping
+wants = refl
+
+abbrev wanting : NodeState
+wanting = (takes (opener_with (hello ∷ [])) (message.Inv (entry 5 abc_id ∷ entry 5 hello_id ∷ []))).state
+
+wanted : wanting ≡ record (opener_with (hello ∷ [])) { set = []; wants = record { wanted = abc_id ∷ []; asked = []; served = [] } }
+unfolding stepping
+wanted = refl
+
+-- an addition before the handshake goes to the pool alone, behind it into the set too
+added_early : (adds (new_accepter []) (codes "hello")).turn.state ≡ new_accepter (hello ∷ [])
+unfolding stepping
+added_early = refl
+
+added_later : (adds (accepter_with []) (codes "hello")).turn.state ≡ accepter_with (hello ∷ [])
+unfolding stepping
+added_later = refl
+
+present : adds (accepter_with (hello ∷ [])) (codes "hello") ≡ record { added = added.Present; turn = record { state = accepter_with (hello ∷ []); out = [] } }
+unfolding stepping
+present = refl
+
+-- what is wanted or asked for goes into the pool alone; an id that is asked for stays so until its transaction comes
+added_wanted : (adds wanting (codes "abc")).turn.state ≡ record (opener_with (hello ∷ [])) { set = []; pool = hello ∷ abc ∷ [] }
+unfolding stepping
+added_wanted = refl
+
+added_asked : (adds asking (codes "abc")).turn.state ≡ record asking { pool = abc ∷ [] }
+unfolding stepping
+added_asked = refl
+
+comes_later : (takes (record asking { pool = abc ∷ [] }) (message.Tx (codes "abc"))).state ≡ record (accepter_with []) { pool = abc ∷ [] }
+unfolding stepping
+comes_later = refl
+
+-- a plain node announces an addition at once
+added_plain : (adds (record (accepter_with []) { plain = true }) (codes "abc")).turn.out ≡ message.Inv (entry 5 abc_id ∷ []) ∷ []
+unfolding stepping
+added_plain = refl
+
+-- a ping is answered
+ponged : (takes (accepter_with []) (message.Ping 7)).out ≡ message.Pong 7 ∷ []
+unfolding stepping
+ponged = refl
+
+-- a node that has ended takes no addition
+added_ended : (adds (record (accepter_with []) { ended = Some end.PoolFull }) (codes "abc")).added ≡ added.Ended
+unfolding stepping
+added_ended = refl

@@ -1,0 +1,115 @@
+-- The accepter's machine of rounds (BIP 330, with this project's rules where that leaves them open).
+use Rattle.std.specs.Prelude.{ℕ, suc, nat_lt, Bool, true, false, if◌then◌else◌, List, [], ◌∷◌, length, Some, None, Ok, Err}
+use Rattle.std.specs.declared.option.Option.{Option}
+use Rattle.std.specs.declared.result.Result.{Result}
+use Rattle.base_types.specs.declared.lists.Hash32.{Hash32}
+use Rattle.sketch_rules.specs.Sketches.{bytes_of}
+use Rattle.wire_rules.specs.declared.message.Message.TheVariants as message
+use Rattle.wire_rules.specs.declared.name.Name.TheVariants as name
+use Rattle.wire_rules.specs.declared.phase.Phase.TheVariants as phase
+use Rattle.pool_rules.specs.Capacity.{capacity}
+use Rattle.pool_rules.specs.Snapshots.{Member, ids_of, sketched_shorts, snapshot_sums}
+use Rattle.pool_rules.specs.declared.report.Ending.{Ending}
+use Rattle.pool_rules.specs.declared.report.Ending.TheVariants as ending
+use Rattle.node_rules.specs.Stages.{sent, given, answered_at, capacity_after, is_idle}
+use Rattle.node_rules.specs.State.{Round, Machine, extensions_allowed}
+use Rattle.node_rules.specs.Turns.{Move, inv_of}
+use Rattle.node_rules.specs.Opener.{is_in, announcement, report_of, closed}
+use Rattle.node_rules.specs.declared.end.End.{End}
+use Rattle.node_rules.specs.declared.end.End.TheVariants as end
+
+-- ---- a request for a sketch
+
+-- the set is taken, and a sketch of it is to be made
+abbrev pub taken : List Member → ℕ → ℕ → Round
+taken set size q = record { snapshot = set; capacity = capacity size (length set) q; sums = [] }
+
+-- the sums 1 to c
+abbrev pub first_portion : Round → List ℕ
+first_portion r = bytes_of (snapshot_sums r.snapshot 0 r.capacity)
+
+abbrev pub first_sketch : Machine → Round → Move
+first_sketch m r = record {
+  machine = record m { phase = sent 0; round = r };
+  set = [];
+  out = message.Sketch (first_portion r) ∷ [];
+}
+
+-- by whether no round is under way
+unfoldable pub reqrecon_by : Bool → Machine → List Member → ℕ → ℕ → Result Move End
+reqrecon_by true m set size q = Ok (first_sketch m (taken set size q))
+reqrecon_by false m set size q = Err (end.Misplaced name.ReqRecon m.phase)
+
+abbrev pub accepter_reqrecon : Machine → List Member → ℕ → ℕ → Result Move End
+accepter_reqrecon m set size q = reqrecon_by (is_idle m.phase) m set size q
+
+-- ---- a request for an extension
+
+-- the sums behind those of n extensions, as many again
+abbrev pub next_portion : Round → ℕ → List ℕ
+next_portion r n = bytes_of (snapshot_sums r.snapshot (capacity_after r.capacity n) (capacity_after r.capacity n))
+
+abbrev pub extends : Machine → List Member → ℕ → Move
+extends m set n = record {
+  machine = record m { phase = sent (suc n) };
+  set = set;
+  out = message.Sketch (next_portion m.round n) ∷ [];
+}
+
+-- by whether one more extension may be asked for
+unfoldable pub extended_by : Bool → Machine → List Member → ℕ → Result Move End
+extended_by true m set n = Ok (extends m set n)
+extended_by false m set n = Err (end.Misplaced name.ReqSketchExt m.phase)
+
+unfoldable pub extension_after : Option ℕ → Machine → List Member → Result Move End
+extension_after None m set = Err (end.Misplaced name.ReqSketchExt m.phase)
+extension_after (Some n) m set = extended_by (nat_lt n (extensions_allowed m)) m set n
+
+abbrev pub accepter_extension : Machine → List Member → Result Move End
+accepter_extension m set = extension_after (given m.phase) m set
+
+-- ---- the difference
+
+-- the first fault of asks, from the left, behind those before: for each that it isn't sketched, and then that it came before
+unfoldable pub ask_fault : List ℕ → List ℕ → List ℕ → Option End
+ask_fault shorts before [] = None
+ask_fault shorts before (n ∷ ns) =
+    if is_in shorts n then (if is_in before n then Some (end.AskRepeated n) else ask_fault shorts (n ∷ before) ns)
+    else Some (end.UnknownShortId n)
+
+-- asks where the difference wasn't found
+abbrev pub asks_on_failure : List ℕ → Option End
+asks_on_failure [] = None
+asks_on_failure (n ∷ ns) = Some (end.AsksOnFailure (length (n ∷ ns)))
+
+abbrev pub diff_fault : Bool → Round → List ℕ → Option End
+diff_fault true r asks = ask_fault (sketched_shorts r.snapshot) [] asks
+diff_fault false r asks = asks_on_failure asks
+
+-- what is announced: what was set aside and what was asked for; or all
+abbrev pub offered : Bool → Round → List ℕ → List Hash32
+offered true r asks = announcement r.snapshot asks
+offered false r asks = ids_of r.snapshot
+
+abbrev pub ending_of : Bool → ℕ → Ending
+ending_of true n = answered_at n
+ending_of false n = ending.Fallback
+
+-- the round is over for the accepter
+abbrev pub resolved : Machine → List Member → ℕ → Bool → List ℕ → Move
+resolved m set n success asks = record {
+  machine = closed m phase.Idle m.coefficient (report_of m.round (ending_of success n) asks);
+  set = set;
+  out = inv_of (offered success m.round asks);
+}
+
+unfoldable pub diff_by : Option End → Machine → List Member → ℕ → Bool → List ℕ → Result Move End
+diff_by (Some e) m set n success asks = Err e
+diff_by None m set n success asks = Ok (resolved m set n success asks)
+
+unfoldable pub diff_after : Option ℕ → Machine → List Member → Bool → List ℕ → Result Move End
+diff_after None m set success asks = Err (end.Misplaced name.ReconcilDiff m.phase)
+diff_after (Some n) m set success asks = diff_by (diff_fault success m.round asks) m set n success asks
+
+abbrev pub accepter_diff : Machine → List Member → Bool → List ℕ → Result Move End
+accepter_diff m set success asks = diff_after (given m.phase) m set success asks

@@ -1,0 +1,9 @@
+pub mod Stages
+pub mod State
+pub mod Turns
+pub mod Opener
+pub mod Accepter
+pub mod Inventory
+pub mod Handshake
+pub mod Additions
+pub mod Steps

@@ -1,0 +1,74 @@
+-- What a step leaves: a state, and the messages that are sent.
+use Rattle.std.specs.Prelude.{List, [], ◌∷◌, ◌++◌, map, Some, Ok, Err}
+use Rattle.std.specs.declared.result.Result.{Result}
+use Rattle.base_types.specs.declared.lists.Hash32.{Hash32}
+use Rattle.wire_rules.specs.Layout.{on_wire}
+use Rattle.wire_rules.specs.declared.message.InvEntry.{InvEntry}
+use Rattle.wire_rules.specs.declared.message.Message.{Message}
+use Rattle.wire_rules.specs.declared.message.Message.TheVariants as message
+use Rattle.wire_rules.specs.declared.name.Name.{Name}
+use Rattle.pool_rules.specs.Snapshots.{Member}
+use Rattle.node_rules.specs.State.{Machine, NodeState, NodeView}
+use Rattle.node_rules.specs.declared.end.End.{End}
+use Rattle.node_rules.specs.declared.end.End.TheVariants as end
+
+-- a step of a machine of rounds, which may take the set
+pub record Move : Type 0 where
+  pub machine : Machine
+  pub set : List Member
+  pub out : List Message
+
+-- a step of a node
+pub record Turn : Type 0 where
+  pub state : NodeState
+  pub out : List Message
+
+-- nothing changes and nothing is sent
+abbrev pub passed : NodeState → Turn
+passed s = record { state = s; out = [] }
+
+-- nothing changes, and messages are sent
+abbrev pub sends : NodeState → List Message → Turn
+sends s ms = record { state = s; out = ms }
+
+-- the node ends, and nothing else changes
+abbrev pub refused : NodeState → End → Turn
+refused s e = record { state = record s { ended = Some e }; out = [] }
+
+-- a message has no place in the handshake, or behind it
+abbrev pub strays : NodeState → Name → Turn
+strays s n = refused s (end.Handshake n)
+
+-- a message has no place in the phase
+abbrev pub misplaced : NodeState → Name → Turn
+misplaced s n = refused s (end.Misplaced n s.machine.phase)
+
+-- the node as its machine has moved
+abbrev pub moved : NodeState → Result Move End → Turn
+moved s (Ok m) = record { state = record s { machine = m.machine; set = m.set }; out = m.out }
+moved s (Err e) = refused s e
+
+-- a caller's view behind a step: the frames of its messages go to the end of the outbox
+abbrev pub after_turn : NodeView → Turn → NodeView
+after_turn v t = record v { state = t.state; outbox = v.outbox ++ on_wire t.state.config.magic t.out }
+
+-- ---- inventories
+
+-- a transaction named by its wtxid (BIP 339)
+abbrev pub entry : Hash32 → InvEntry
+entry id = record { kind = 5; id = id }
+
+-- an announcement of ids; of none it isn't sent
+abbrev pub inv_of : List Hash32 → List Message
+inv_of [] = []
+inv_of (id ∷ ids) = message.Inv (map entry (id ∷ ids)) ∷ []
+
+-- a request for ids; for none it isn't sent
+abbrev pub getdata_of : List Hash32 → List Message
+getdata_of [] = []
+getdata_of (id ∷ ids) = message.GetData (map entry (id ∷ ids)) ∷ []
+
+-- entries that can't be served; where there are none, it isn't sent
+abbrev pub notfound_of : List InvEntry → List Message
+notfound_of [] = []
+notfound_of (e ∷ es) = message.NotFound (e ∷ es) ∷ []
