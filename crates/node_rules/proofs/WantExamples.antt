@@ -1,6 +1,5 @@
--- Worked examples of announcements, requests, transactions and additions. A full pool, of 20,000 transactions, is out of
--- the checker's reach here.
-use Rattle.std.proofs.Common.{◌≡◌, List, [], ◌∷◌, refl, true, Some}
+-- Worked examples of announcements, requests, transactions and additions.
+use Rattle.std.proofs.Common.{◌≡◌, replicate, drop, List, [], ◌∷◌, refl, true, Some}
 use Rattle.std.specs.Prelude.{codes}
 use Rattle.wire_rules.specs.declared.message.Message.TheVariants as message
 use Rattle.wire_rules.proofs.Samples.{hello_id, abc_id, entry}
@@ -97,3 +96,28 @@ ponged = refl
 added_ended : (adds (record (accepter_with []) { ended = Some end.PoolFull }) (codes "abc")).added ≡ added.Ended
 unfolding stepping
 added_ended = refl
+
+-- ---- a full pool
+
+-- 20,000 transactions. What stands in them plays no part here, so they are all alike
+abbrev full : List Held
+full = replicate 20000 (record { id = record { 0 = [] }; bytes = 1 ∷ [] })
+
+abbrev full_accepter : NodeState
+full_accepter = record (accepter_with []) { pool = full }
+
+inv_at_full : (takes full_accepter (message.Inv (entry 5 abc_id ∷ []))).state.ended ≡ Some end.PoolFull
+unfolding stepping
+inv_at_full = refl
+
+add_at_full : (adds full_accepter (codes "abc")).added ≡ added.Full
+unfolding stepping
+add_at_full = refl
+
+-- one transaction fewer leaves room
+abbrev all_but_one : NodeState
+all_but_one = record (accepter_with []) { pool = drop 1 full }
+
+inv_at_all_but_one : (takes all_but_one (message.Inv (entry 5 abc_id ∷ []))).out ≡ message.GetData (entry 5 abc_id ∷ []) ∷ []
+unfolding stepping
+inv_at_all_but_one = refl
