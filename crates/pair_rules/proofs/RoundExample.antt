@@ -1,0 +1,217 @@
+-- A whole round of two nodes that have one transaction each. Nothing computes the set that a sketch is of, so it is a
+-- premise here that the sketch of the difference is answered by the difference; that it is an answer is computed. The
+-- worlds are written out, so that each step computes from plain values.
+use Rattle.std.proofs.Common.{◌≡◌, ℕ, List, [], ◌∷◌, ◌++◌, refl, ap, ◌∙◌, true, true≢false, ◌==◌, Option, Some, inr, lit<, lit≤}
+use Rattle.sketch_rules.specs.Answers.{Answer, Rises, answer_of}
+use Rattle.wire_rules.specs.Layout.{on_wire}
+use Rattle.wire_rules.specs.declared.message.Message.{Message}
+use Rattle.wire_rules.specs.declared.message.Message.TheVariants as message
+use Rattle.wire_rules.specs.declared.phase.Phase.TheVariants as phase
+use Rattle.wire_rules.proofs.Samples.{magic}
+use Rattle.pool_rules.specs.Pools.{Held}
+use Rattle.pool_rules.specs.Snapshots.{Member}
+use Rattle.pool_rules.specs.declared.report.Ending.TheVariants as ending
+use Rattle.pool_rules.specs.declared.report.Report.{Report}
+use Rattle.node_rules.specs.Accepter.{first_portion}
+use Rattle.node_rules.specs.Opener.{sketch_by}
+use Rattle.node_rules.specs.State.{NodeState, no_round}
+use Rattle.node_rules.specs.Turns.{Turn, entry, moved, passed}
+use Rattle.node_rules.specs.Steps.{followed as then_turn}
+use Rattle.node_rules.proofs.Samples.{new_opener, new_accepter}
+use Rattle.pair_rules.specs.Rounds.{Fits, Holds, IsFinished, pair_keys}
+use Rattle.pair_rules.specs.World.{World, Effect, IsDrained, run, run_from, unless_ended, happens, followed, turn_a}
+use Rattle.pair_rules.specs.declared.event.Event.{Event}
+use Rattle.pair_rules.specs.declared.event.Event.TheVariants as event
+use Rattle.pair_rules.proofs.Runs.{run_from-append}
+use Rattle.pair_rules.proofs.Samples.{happening, new_pair, drain}
+
+abbrev all : ℕ
+all = 18446744073709551615
+
+-- ---- the transactions of the bytes of 'hello' and 'abc', and their short ids under the salts 1 and 2
+
+abbrev pub hello : Held
+hello = record {
+  bytes = 104 ∷ 101 ∷ 108 ∷ 108 ∷ 111 ∷ [];
+  id = record {
+    0 =
+        149 ∷ 149 ∷ 201 ∷ 223 ∷ 144 ∷ 7 ∷ 81 ∷ 72 ∷ 235 ∷ 6 ∷ 134 ∷ 3 ∷ 101 ∷ 223 ∷ 51 ∷ 88 ∷ 75 ∷ 117 ∷ 191 ∷ 247 ∷
+        130 ∷ 165 ∷ 16 ∷ 198 ∷ 205 ∷ 72 ∷ 131 ∷ 164 ∷ 25 ∷ 131 ∷ 61 ∷ 80 ∷ [];
+  };
+}
+
+abbrev pub abc : Held
+abc = record {
+  bytes = 97 ∷ 98 ∷ 99 ∷ [];
+  id = record {
+    0 =
+        79 ∷ 139 ∷ 66 ∷ 194 ∷ 45 ∷ 211 ∷ 114 ∷ 155 ∷ 81 ∷ 155 ∷ 166 ∷ 246 ∷ 141 ∷ 45 ∷ 167 ∷ 204 ∷ 91 ∷ 45 ∷ 96 ∷ 109 ∷
+        5 ∷ 218 ∷ 237 ∷ 90 ∷ 213 ∷ 18 ∷ 140 ∷ 192 ∷ 62 ∷ 108 ∷ 99 ∷ 88 ∷ [];
+  };
+}
+
+abbrev hello_member : Member
+hello_member = record { id = hello.id; short = 0xd977c38b }
+
+abbrev abc_member : Member
+abc_member = record { id = abc.id; short = 0x7d73875b }
+
+-- a node behind the handshake
+abbrev pub introduced : NodeState → ℕ → NodeState
+introduced s salt = record s { peer = record { relays_by_id = true; offer = Some (record { salt = salt }) } }
+
+-- ---- up to the sketch: both get their transaction, the handshake is over, a round is begun and its request delivered
+
+abbrev to_the_sketch : List Event
+to_the_sketch = event.AddA hello.bytes ∷ event.AddB abc.bytes ∷ drain ++ event.Round ∷ event.DeliverAb all ∷ []
+
+abbrev waiting_a : NodeState
+waiting_a = record (introduced (new_opener (hello ∷ [])) 2) {
+  machine = record { phase = phase.Waiting; round = no_round; coefficient = 8192; begun = 1; reports = [] };
+  set = hello_member ∷ [];
+  inbox = record { unread = []; place = 203 };
+}
+
+abbrev sent_b : NodeState
+sent_b = record (introduced (new_accepter (abc ∷ [])) 1) {
+  machine = record { phase = phase.Sent; round = record { snapshot = abc_member ∷ []; capacity = 8; sums = [] }; coefficient = 8192; begun = 0; reports = [] };
+  inbox = record { unread = []; place = 231 };
+}
+
+-- the accepter's sketch, of capacity 8, as its frame
+abbrev sketch_frame : List ℕ
+sketch_frame =
+    249 ∷ 190 ∷ 180 ∷ 217 ∷ 115 ∷ 107 ∷ 101 ∷ 116 ∷ 99 ∷ 104 ∷ 0 ∷ 0 ∷ 0 ∷ 0 ∷ 0 ∷ 0 ∷ 33 ∷ 0 ∷ 0 ∷ 0 ∷ 206 ∷ 144 ∷
+    52 ∷ 55 ∷ 32 ∷ 91 ∷ 135 ∷ 115 ∷ 125 ∷ 135 ∷ 147 ∷ 224 ∷ 243 ∷ 126 ∷ 189 ∷ 134 ∷ 12 ∷ 75 ∷ 41 ∷ 64 ∷ 49 ∷ 109 ∷
+    233 ∷ 243 ∷ 182 ∷ 140 ∷ 17 ∷ 73 ∷ 52 ∷ 170 ∷ 162 ∷ 41 ∷ 114 ∷ 103 ∷ 206 ∷ 147 ∷ 153 ∷ []
+
+abbrev at_sketch : World
+at_sketch = record { a = waiting_a; b = sent_b; ab = []; ba = sketch_frame }
+
+begins : (run new_pair to_the_sketch).world ≡ at_sketch
+unfolding happening
+begins = refl
+
+-- ---- the answer: the short ids of both transactions, ascending. Their sums are those of the difference
+
+abbrev difference_sums : List ℕ
+difference_sums =
+    0xa40444d0 ∷ 0x837bccc5 ∷ 0xa0200877 ∷ 0xf14cf9d6 ∷ 0x9beb8ba3 ∷ 0xc7c86f23 ∷ 0xfaabc451 ∷ 0x6427a606 ∷ []
+
+abbrev pub both : List ℕ
+both = 0x7d73875b ∷ 0xd977c38b ∷ []
+
+both_answer : Answer 32 difference_sums both
+unfolding happening Rises
+both_answer = record { rises = (lit≤ tt, lit< tt, (lit≤ tt, lit< tt, tt)); few = lit≤ tt; sketched = refl }
+
+-- ---- the sketch arrives: the opener asks for the accepter's transaction and announces its own
+
+abbrev read_a : NodeState
+read_a = record waiting_a { inbox = record { unread = []; place = 260 } }
+
+abbrev sketch_bytes : List ℕ
+sketch_bytes = first_portion sent_b.machine.round
+
+-- the opener's step, by what its sketch is answered by; behind it there is no more to read
+abbrev sketch_step : Option (List ℕ) → Turn
+sketch_step answer = moved read_a (sketch_by answer (Some 0) waiting_a.machine waiting_a.set sketch_bytes)
+
+abbrev step_by : Option (List ℕ) → Turn
+step_by answer = then_turn (sketch_step answer) (passed (sketch_step answer).state)
+
+abbrev effect_by : Option (List ℕ) → Effect
+effect_by answer = turn_a (record { a = waiting_a; b = sent_b; ab = []; ba = [] }) (step_by answer) 0
+
+arrives : happens at_sketch (event.DeliverBa all) ≡ effect_by (answer_of difference_sums)
+unfolding happening
+arrives = refl
+
+abbrev said : List Message
+said = message.ReconcilDiff true (0x7d73875b ∷ []) ∷ message.Inv (entry hello.id ∷ []) ∷ message.Ping 1 ∷ []
+
+abbrev pub opener_report : Report
+opener_report = record { snapshot = hello.id ∷ []; capacity = 8; ending = ending.First; answered = both }
+
+abbrev answered_a : NodeState
+answered_a = record read_a {
+  machine = record { phase = phase.Barrier; round = no_round; coefficient = 65534; begun = 1; reports = opener_report ∷ [] };
+  set = [];
+}
+
+abbrev answered : Effect
+answered = record { world = record { a = answered_a; b = sent_b; ab = on_wire magic said; ba = [] }; by_a = said; by_b = []; full = 0 }
+
+answers : effect_by (Some both) ≡ answered
+unfolding happening
+answers = refl
+
+sketch_arrives : answer_of difference_sums ≡ Some both → happens at_sketch (event.DeliverBa all) ≡ answered
+sketch_arrives h = arrives ∙ ap effect_by h ∙ answers
+
+-- ---- the rest of the round: both are idle again, and each has what the other had
+
+abbrev pub accepter_report : Report
+accepter_report = record { snapshot = abc.id ∷ []; capacity = 8; ending = ending.First; answered = 0x7d73875b ∷ [] }
+
+abbrev pub last_a : NodeState
+last_a = record (introduced (new_opener (hello ∷ abc ∷ [])) 2) {
+  machine = record { phase = phase.Idle; round = no_round; coefficient = 65534; begun = 1; reports = opener_report ∷ [] };
+  wants = record { wanted = []; asked = []; served = hello.id ∷ [] };
+  inbox = record { unread = []; place = 441 };
+}
+
+abbrev pub last_b : NodeState
+last_b = record (introduced (new_accepter (abc ∷ hello ∷ [])) 1) {
+  machine = record { phase = phase.Idle; round = no_round; coefficient = 8192; begun = 0; reports = accepter_report ∷ [] };
+  wants = record { wanted = []; asked = []; served = abc.id ∷ [] };
+  inbox = record { unread = []; place = 444 };
+}
+
+abbrev pub last : World
+last = record { a = last_a; b = last_b; ab = []; ba = [] }
+
+goes_on : (run answered.world drain).world ≡ last
+unfolding happening
+goes_on = refl
+
+-- ---- the whole script: additions, all deliveries, a round, and all deliveries again
+
+abbrev script : List Event
+script = to_the_sketch ++ event.DeliverBa all ∷ drain
+
+-- the events from the sketch on: the sketch, and all deliveries
+sketch_first : (run_from (event.DeliverBa all ∷ drain) at_sketch).world ≡ (followed (happens at_sketch (event.DeliverBa all)) (run_from drain (happens at_sketch (event.DeliverBa all)).world)).world
+unfolding run_from unless_ended
+sketch_first = refl
+
+from_sketch : answer_of difference_sums ≡ Some both → (run_from (event.DeliverBa all ∷ drain) at_sketch).world ≡ last
+from_sketch h = sketch_first ∙ ap (λ (x : Effect). (followed x (run_from drain x.world)).world) (sketch_arrives h) ∙ goes_on
+
+whole : answer_of difference_sums ≡ Some both → (run new_pair script).world ≡ last
+whole h = run_from-append to_the_sketch (event.DeliverBa all ∷ drain) new_pair ∙ ap (λ w. (run_from (event.DeliverBa all ∷ drain) w).world) begins ∙ from_sketch h
+
+-- ---- the round fits, and has left both snapshots in both pools
+
+apart : ◌≡◌ {A = ℕ} 0xd977c38b 0x7d73875b → hello.id ≡ abc.id
+apart same = absurd (true≢false (ap (λ n. n == 0xd977c38b) same))
+
+fits : Fits (pair_keys last) opener_report accepter_report
+unfolding happening
+fits = inr (record { apart = ((apart, tt), tt); small = lit≤ tt })
+
+holds : Holds last opener_report accepter_report
+unfolding happening
+holds = record { of_a = (record { a = refl; b = refl }, tt); of_b = (record { a = refl; b = refl }, tt) }
+
+drained : IsDrained last
+drained = record { ab = refl; ba = refl }
+
+finished : IsFinished last
+unfolding happening
+finished = record {
+  quiet_a = record { idle = refl; nothing_unread = refl; nothing_wanted = refl };
+  quiet_b = record { idle = refl; nothing_unread = refl; nothing_wanted = refl };
+  rounds = ((λ fits. holds), tt);
+  begun = refl;
+}

@@ -1,0 +1,27 @@
+-- What the worked examples share.
+use Rattle.std.proofs.Common.{List, []}
+use Rattle.node_rules.proofs.Samples.{receiving, config_of}
+use Rattle.node_rules.specs.declared.config.Role.TheVariants as role
+use Rattle.id_rules.proofs.Samples.{sipping}
+use Rattle.pair_rules.specs.World.{World, fullness, happens, unless_ended, run_from, end_on, is_event, deliveries, opening_world}
+use Rattle.pair_rules.specs.Rounds.{capacity_by, EachRound}
+use Rattle.pair_rules.specs.Session.{count_of, round_if_left, takes_pieces, is_done_by, SentBefore, NotLate}
+use Rattle.pair_rules.specs.declared.event.Event.{Event}
+
+-- an example that has this in its line `unfolding` computes what happens to a pair
+unfoldable pub happening : Unit {0}
+unfolding receiving sipping fullness happens unless_ended run_from end_on is_event deliveries capacity_by EachRound
+happening = tt
+
+-- the same for a session
+unfoldable pub sessioning : Unit {0}
+unfolding receiving sipping count_of round_if_left takes_pieces is_done_by SentBefore NotLate
+sessioning = tt
+
+-- two new nodes of the salts 1 and 2, with empty pools
+abbrev pub new_pair : World
+new_pair = opening_world (config_of role.Opener 1) (config_of role.Accepter 2) [] []
+
+-- 16 times all deliveries
+abbrev pub drain : List Event
+drain = deliveries 16

@@ -1,0 +1,72 @@
+-- Worked examples of sessions: what the pieces of a peer make of a new node.
+use Rattle.std.proofs.Common.{◌≡◌, ℕ, List, [], ◌∷◌, ◌++◌, refl, true, false, Some, length, take, drop}
+use Rattle.id_rules.proofs.Samples.{from_digits}
+use Rattle.std.specs.Prelude.{codes}
+use Rattle.wire_rules.specs.Layout.{on_wire}
+use Rattle.wire_rules.specs.declared.message.Message.TheVariants as message
+use Rattle.wire_rules.specs.declared.name.Name.TheVariants as name
+use Rattle.wire_rules.specs.declared.phase.Phase.TheVariants as phase
+use Rattle.wire_rules.proofs.Samples.{magic}
+use Rattle.node_rules.specs.declared.end.End.TheVariants as end
+use Rattle.node_rules.proofs.Samples.{new_opener, new_accepter, introduced}
+use Rattle.pair_rules.specs.Session.{Session, SentBefore, session_start, takes_pieces, is_done}
+use Rattle.pair_rules.proofs.Samples.{sessioning}
+
+-- a new opener has given its version, of 119 bytes, and a new accepter nothing
+opener_gives : length (session_start (new_opener [])).given ≡ 119
+unfolding sessioning
+opener_gives = refl
+
+accepter_gives : (session_start (new_accepter [])).given ≡ []
+unfolding sessioning
+accepter_gives = refl
+
+-- where nothing comes, an accepter isn't done when its input ends: it is in Greeting
+silent : is_done true 0 (session_start (new_accepter [])) ≡ false
+unfolding sessioning
+silent = refl
+
+-- behind the peer's whole handshake it is
+greeted : is_done true 0 (takes_pieces 0 (session_start (new_accepter [])) (on_wire magic (introduced 1) ∷ [])) ≡ true
+unfolding sessioning
+greeted = refl
+
+-- a `verack` at once ends it
+verack_first : (takes_pieces 0 (session_start (new_accepter [])) (from_digits (codes "f9beb4d976657261636b000000000000000000005df6e0e2") ∷ [])).state.ended ≡ Some (end.Handshake name.Verack)
+unfolding sessioning
+verack_first = refl
+
+-- the pieces of an accepter's handshake, cut in the middle, and the session of an opener of one round that takes them: the
+-- round begins with the last byte
+abbrev cut : List (List ℕ)
+cut = take 100 (on_wire magic (introduced 2)) ∷ drop 100 (on_wire magic (introduced 2)) ∷ []
+
+abbrev opened : Session
+opened = takes_pieces 1 (session_start (new_opener [])) cut
+
+begun : opened.begun ≡ 1
+unfolding sessioning
+begun = refl
+
+asked : opened.state.machine.phase ≡ phase.Waiting
+unfolding sessioning
+asked = refl
+
+not_done : is_done false 1 opened ≡ false
+unfolding sessioning
+not_done = refl
+
+-- it has given its version, its introduction and the request
+gives : opened.given ≡ on_wire magic (introduced 1 ++ message.ReqRecon 0 8192 ∷ [])
+unfolding sessioning
+gives = refl
+
+-- a round without a sketch, and its pong: then it is done
+ended_round : is_done false 1 (takes_pieces 1 (session_start (new_opener [])) (cut ++ on_wire magic (message.Sketch [] ∷ []) ∷ on_wire magic (message.Pong 1 ∷ []) ∷ [])) ≡ true
+unfolding sessioning
+ended_round = refl
+
+-- what was sent before each piece: the version before the first, and no more before the second
+prompt : SentBefore 1 (session_start (new_opener [])) (record { bytes = take 100 (on_wire magic (introduced 2)); sent_before = 119 } ∷ [])
+unfolding sessioning
+prompt = (refl, tt)

@@ -1,0 +1,4 @@
+pub mod World
+pub mod Rounds
+pub mod Headline
+pub mod Session
