@@ -1,0 +1,5 @@
+pub mod Samples
+pub mod EndExamples
+pub mod ScriptExamples
+pub mod WorkExamples
+pub mod PairExamples

@@ -1,0 +1,6 @@
+pub mod Ends
+pub mod Numbers
+pub mod Scripts
+pub mod Generator
+pub mod Pairs
+pub mod Works
