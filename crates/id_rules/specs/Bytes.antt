@@ -1,5 +1,5 @@
 -- Lists of numbers that are bytes, and bytes that may be a transaction.
-use Rattle.std.specs.Prelude.{ℕ, ◌^◌, ◌&&◌, nat_lt, nat_le, Bool, List, length}
+use Rattle.std.specs.Prelude.{ℕ, ◌^◌, ◌&&◌, nat_lt, nat_le, Bool, List}
 use Rattle.std.specs.List.{list_all}
 use Rattle.id_rules.specs.declared.TheConstants.{TX_LIMIT}
 
