@@ -1,0 +1,3 @@
+pub mod Growing
+pub mod GrowingSteps
+pub mod Ended
