@@ -1,0 +1,26 @@
+//! Laws of frames and messages, in `proofs/`, each stated by a function.
+#![tactic(auto)]
+
+ghost use Rattle.std.specs.Prelude.{◌≡◌, ℕ, ◌+◌, ◌<◌, Ok, List, ◌++◌, length, take};
+ghost use Rattle.wire_rules.specs.Layout.{frame_bytes, frame_of};
+ghost use Rattle.wire_rules.specs.Limits.{IsFrame, IsMessage};
+ghost use Rattle.wire_rules.specs.Reading.{message_of};
+ghost use Rattle.wire_rules.specs.Stream.{Whole, Unfinished, front_of};
+ghost use Rattle.wire_rules.specs.declared.frame.Frame.{Frame};
+ghost use Rattle.wire_rules.specs.declared.message.Message.{Message};
+
+/// A message that may be sent is what its frame says, and no other one has this frame. It does nothing when it runs:
+/// its contract is the theorem.
+pub fn messages_are_read_back()
+    ensures said { (m : Message) → IsMessage m → message_of (frame_of m) ≡ Ok m }
+    ensures one { (m n : Message) → IsMessage m → IsMessage n → frame_of m ≡ frame_of n → m ≡ n }
+{}
+
+/// A frame in front of a stream is found whole, whatever follows it, and a proper front of a frame is unfinished. It does
+/// nothing when it runs: its contract is the theorem.
+pub fn frames_are_found()
+    ensures whole { (magic : List ℕ) (place : ℕ) (f : Frame) (more : List ℕ) → length magic ≡ 4 → IsFrame f
+        → front_of magic place (frame_bytes magic f ++ more) ≡ Whole f (24 + length f.payload) }
+    ensures cut { (magic : List ℕ) (f : Frame) (n : ℕ) → length magic ≡ 4 → IsFrame f → n < length (frame_bytes magic f)
+        → Unfinished magic (take n (frame_bytes magic f)) }
+{}
