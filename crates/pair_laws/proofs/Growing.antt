@@ -1,0 +1,47 @@
+-- Nothing leaves the pool of a side, whatever happens.
+use Rattle.std.proofs.Common.{ℕ, Bool, true, false, List, [], ◌∷◌, ◌++◌, take, drop, sym, ap, ◌∙◌, append_assoc, append-nil}
+use Rattle.node_rules.specs.Additions.{adds}
+use Rattle.node_rules.specs.Steps.{receives, begins}
+use Rattle.node_rules.specs.Turns.{Turn}
+use Rattle.node_laws.specs.Pools.{Grows}
+use Rattle.node_laws.proofs.GrowingSteps.{receives-grows, adds-grows, begins-grows}
+use Rattle.pair_rules.specs.World.{World, Effect, turn_a, turn_b, fullness, happens, unless_ended, run_from, has_end}
+use Rattle.pair_rules.specs.declared.event.Event.{Event}
+use Rattle.pair_rules.specs.declared.event.Event.TheVariants as event
+use Rattle.pair_laws.specs.Pools.{Extends}
+
+extends-same : (w : World) → Extends w w
+extends-same w = record { more_a = []; more_b = []; pool_a = sym (append-nil w.a.pool); pool_b = sym (append-nil w.b.pool) }
+
+extends-both : (u v w : World) → Extends u v → Extends v w → Extends u w
+extends-both u v w first second = record {
+  more_a = first.more_a ++ second.more_a;
+  more_b = first.more_b ++ second.more_b;
+  pool_a = second.pool_a ∙ ap (λ pool. pool ++ second.more_a) first.pool_a ∙ append_assoc u.a.pool first.more_a second.more_a;
+  pool_b = second.pool_b ∙ ap (λ pool. pool ++ second.more_b) first.pool_b ∙ append_assoc u.b.pool first.more_b second.more_b;
+}
+
+-- a step of a side
+turn_a-extends : (w : World) (ba : List ℕ) (t : Turn) (full : ℕ) → Grows w.a t → Extends w (turn_a (record w { ba = ba }) t full).world
+turn_a-extends w ba t full g = record { more_a = g.more; more_b = []; pool_a = g.grown; pool_b = sym (append-nil w.b.pool) }
+
+turn_b-extends : (w : World) (ab : List ℕ) (t : Turn) (full : ℕ) → Grows w.b t → Extends w (turn_b (record w { ab = ab }) t full).world
+turn_b-extends w ab t full g = record { more_a = []; more_b = g.more; pool_a = sym (append-nil w.a.pool); pool_b = g.grown }
+
+pub happens-extends : (w : World) (e : Event) → Extends w (happens w e).world
+unfolding happens
+happens-extends w (event.DeliverAb n) = turn_b-extends w (drop n w.ab) (receives w.b (take n w.ab)) 0 (receives-grows w.b (take n w.ab))
+happens-extends w (event.DeliverBa n) = turn_a-extends w (drop n w.ba) (receives w.a (take n w.ba)) 0 (receives-grows w.a (take n w.ba))
+happens-extends w (event.AddA tx) = turn_a-extends w w.ba (adds w.a tx).turn (fullness (adds w.a tx).added) (adds-grows w.a tx)
+happens-extends w (event.AddB tx) = turn_b-extends w w.ab (adds w.b tx).turn (fullness (adds w.b tx).added) (adds-grows w.b tx)
+happens-extends w event.Round = turn_a-extends w w.ba (begins w.a).turn 0 (begins-grows w.a)
+
+unless_ended-extends : (over : Bool) (w : World) (x : Effect) (next : World → Effect) → Extends w x.world → ((v : World) → Extends v (next v).world) → Extends w (unless_ended over w x next).world
+unfolding unless_ended
+unless_ended-extends true w x next first later = extends-same w
+unless_ended-extends false w x next first later = extends-both w x.world (next x.world).world first (later x.world)
+
+pub run_from-extends : (es : List Event) (w : World) → Extends w (run_from es w).world
+unfolding run_from
+run_from-extends [] w = extends-same w
+run_from-extends (e ∷ es) w = unless_ended-extends (has_end w) w (happens w e) (run_from es) (happens-extends w e) (run_from-extends es)
