@@ -2,3 +2,4 @@ pub mod Parts
 pub mod Fronts
 pub mod Readers
 pub mod Messages
+pub mod Sound

@@ -1,5 +1,5 @@
 -- Parts of a list, told by their lengths, and tests that hold.
-use Rattle.std.proofs.Common.{◌≡◌, ℕ, ◌≤◌, Bool, true, false, List, ◌++◌, length, take, drop, bytes_eq, nat_le, ◌&&◌, refl, subst}
+use Rattle.std.proofs.Common.{◌≡◌, ℕ, ◌≤◌, Bool, true, false, List, ◌++◌, length, take, drop, bytes_eq, nat_le, ◌&&◌, refl, ap, ◌∙◌, subst}
 use Rattle.std.proofs.Math.Seq.{take-append_seam, drop-append_seam}
 use Rattle.std.proofs.lemmas.Bool.{le-leb}
 use Rattle.std.proofs.lemmas.Cmp.{nat_list_eq_equiv}
@@ -21,3 +21,6 @@ both_hold false b h = cc
 
 pub le_holds : (a b : ℕ) → a ≤ b → nat_le a b ≡ true
 le_holds a b h = le-leb a b h
+
+pub both_so : (a b : Bool) → a ≡ true → b ≡ true → (a && b) ≡ true
+both_so a b ha hb = ap (λ x. x && b) ha ∙ hb

@@ -115,7 +115,7 @@ count_by : (small : Bool) (limit at n : ℕ) (ys : List ℕ) → nat_lt n 0xFD �
 count_by true limit at n ys h within low = (at + 1, count_small limit at n ys (ltb-true n 0xFD h) within)
 count_by false limit at n ys h within low = (at + 1 + 2, count_marked limit at n ys (let least = leb-false (suc n) 0xFD h in omega arith) (omega arith) within)
 
-two_bytes : (n : ℕ) → n < 2 ^ 16 → compact_size n ≡ (if nat_lt n 0xFD then n ∷ [] else 0xFD ∷ to_le_bytes w16 n)
+pub two_bytes : (n : ℕ) → n < 2 ^ 16 → compact_size n ≡ (if nat_lt n 0xFD then n ∷ [] else 0xFD ∷ to_le_bytes w16 n)
 unfolding compact_size
 two_bytes n h = rw (le_holds (suc n) (2 ^ 16) h) refl
 

@@ -9,9 +9,10 @@ ghost use Rattle.wire_rules.specs.Stream.{Whole, Unfinished, front_of};
 ghost use Rattle.wire_rules.specs.declared.frame.Frame.{Frame};
 ghost use Rattle.wire_rules.specs.declared.message.Message.{Message};
 
-/// A message that may be sent is what its frame says, and no other one has this frame. It does nothing when it runs:
-/// its contract is the theorem.
+/// A message that may be sent has a frame that may be sent, is what this frame says, and no other message has this frame.
+/// It does nothing when it runs: its contract is the theorem.
 pub fn messages_are_read_back()
+    ensures sound { (m : Message) → IsMessage m → IsFrame (frame_of m) }
     ensures said { (m : Message) → IsMessage m → message_of (frame_of m) ≡ Ok m }
     ensures one { (m n : Message) → IsMessage m → IsMessage n → frame_of m ≡ frame_of n → m ≡ n }
 {}
