@@ -1,4 +1,5 @@
 pub mod Samples
 pub mod Runs
 pub mod RoundExample
+pub mod TwoRounds
 pub mod SessionExamples

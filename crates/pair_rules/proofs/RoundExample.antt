@@ -13,17 +13,15 @@ use Rattle.pool_rules.specs.Snapshots.{Member}
 use Rattle.pool_rules.specs.declared.report.Ending.TheVariants as ending
 use Rattle.pool_rules.specs.declared.report.Report.{Report}
 use Rattle.node_rules.specs.Accepter.{first_portion}
-use Rattle.node_rules.specs.Opener.{sketch_by}
 use Rattle.node_rules.specs.State.{NodeState, no_round}
-use Rattle.node_rules.specs.Turns.{Turn, entry, moved, passed}
-use Rattle.node_rules.specs.Steps.{followed as then_turn}
+use Rattle.node_rules.specs.Turns.{entry}
 use Rattle.node_rules.proofs.Samples.{new_opener, new_accepter}
 use Rattle.pair_rules.specs.Rounds.{Fits, Holds, IsFinished, pair_keys}
-use Rattle.pair_rules.specs.World.{World, Effect, IsDrained, run, run_from, unless_ended, happens, followed, turn_a}
+use Rattle.pair_rules.specs.World.{World, Effect, IsDrained, run, run_from, unless_ended, happens, followed, deliveries}
 use Rattle.pair_rules.specs.declared.event.Event.{Event}
 use Rattle.pair_rules.specs.declared.event.Event.TheVariants as event
 use Rattle.pair_rules.proofs.Runs.{run_from-append}
-use Rattle.pair_rules.proofs.Samples.{happening, new_pair, drain}
+use Rattle.pair_rules.proofs.Samples.{happening, new_pair, drain, sketch_effect}
 
 abbrev all : ℕ
 all = 18446744073709551615
@@ -50,10 +48,10 @@ abc = record {
   };
 }
 
-abbrev hello_member : Member
+abbrev pub hello_member : Member
 hello_member = record { id = hello.id; short = 0xd977c38b }
 
-abbrev abc_member : Member
+abbrev pub abc_member : Member
 abc_member = record { id = abc.id; short = 0x7d73875b }
 
 -- a node behind the handshake
@@ -113,15 +111,9 @@ read_a = record waiting_a { inbox = record { unread = []; place = 260 } }
 abbrev sketch_bytes : List ℕ
 sketch_bytes = first_portion sent_b.machine.round
 
--- the opener's step, by what its sketch is answered by; behind it there is no more to read
-abbrev sketch_step : Option (List ℕ) → Turn
-sketch_step answer = moved read_a (sketch_by answer (Some 0) waiting_a.machine waiting_a.set sketch_bytes)
-
-abbrev step_by : Option (List ℕ) → Turn
-step_by answer = then_turn (sketch_step answer) (passed (sketch_step answer).state)
-
+-- the opener's step, by what its sketch is answered by
 abbrev effect_by : Option (List ℕ) → Effect
-effect_by answer = turn_a (record { a = waiting_a; b = sent_b; ab = []; ba = [] }) (step_by answer) 0
+effect_by answer = sketch_effect read_a sent_b sketch_bytes answer
 
 arrives : happens at_sketch (event.DeliverBa all) ≡ effect_by (answer_of difference_sums)
 unfolding happening
@@ -171,25 +163,25 @@ last_b = record (introduced (new_accepter (abc ∷ hello ∷ [])) 1) {
 abbrev pub last : World
 last = record { a = last_a; b = last_b; ab = []; ba = [] }
 
-goes_on : (run answered.world drain).world ≡ last
+goes_on : (run answered.world (deliveries 15)).world ≡ last
 unfolding happening
 goes_on = refl
 
 -- ---- the whole script: additions, all deliveries, a round, and all deliveries again
 
-abbrev script : List Event
-script = to_the_sketch ++ event.DeliverBa all ∷ drain
+abbrev pub script : List Event
+script = to_the_sketch ++ event.DeliverBa all ∷ deliveries 15
 
 -- the events from the sketch on: the sketch, and all deliveries
-sketch_first : (run_from (event.DeliverBa all ∷ drain) at_sketch).world ≡ (followed (happens at_sketch (event.DeliverBa all)) (run_from drain (happens at_sketch (event.DeliverBa all)).world)).world
+sketch_first : (run_from (event.DeliverBa all ∷ deliveries 15) at_sketch).world ≡ (followed (happens at_sketch (event.DeliverBa all)) (run_from (deliveries 15) (happens at_sketch (event.DeliverBa all)).world)).world
 unfolding run_from unless_ended
 sketch_first = refl
 
-from_sketch : answer_of difference_sums ≡ Some both → (run_from (event.DeliverBa all ∷ drain) at_sketch).world ≡ last
-from_sketch h = sketch_first ∙ ap (λ (x : Effect). (followed x (run_from drain x.world)).world) (sketch_arrives h) ∙ goes_on
+from_sketch : answer_of difference_sums ≡ Some both → (run_from (event.DeliverBa all ∷ deliveries 15) at_sketch).world ≡ last
+from_sketch h = sketch_first ∙ ap (λ (x : Effect). (followed x (run_from (deliveries 15) x.world)).world) (sketch_arrives h) ∙ goes_on
 
 whole : answer_of difference_sums ≡ Some both → (run new_pair script).world ≡ last
-whole h = run_from-append to_the_sketch (event.DeliverBa all ∷ drain) new_pair ∙ ap (λ w. (run_from (event.DeliverBa all ∷ drain) w).world) begins ∙ from_sketch h
+whole h = run_from-append to_the_sketch (event.DeliverBa all ∷ deliveries 15) new_pair ∙ ap (λ w. (run_from (event.DeliverBa all ∷ deliveries 15) w).world) begins ∙ from_sketch h
 
 -- ---- the round fits, and has left both snapshots in both pools
 

@@ -1,10 +1,13 @@
 -- Worked examples of what is written of a pair.
-use Rattle.std.proofs.Common.{◌≡◌, ℕ, List, [], ◌++◌, refl, Some, true, false}
+use Rattle.std.proofs.Common.{◌≡◌, ℕ, List, [], ◌++◌, refl, Ok, Some, true, false}
 use Rattle.std.specs.Prelude.{codes}
 use Rattle.line_rules.specs.Lines.{line}
 use Rattle.node_rules.specs.declared.end.End.TheVariants as end
 use Rattle.pair_rules.specs.World.{World, nothing}
-use Rattle.pair_rules.proofs.RoundExample.{last}
+use Rattle.pair_rules.proofs.RoundExample.{last, script as one_round}
+use Rattle.pair_rules.proofs.Samples.{new_pair}
+use Rattle.pair_rules.proofs.TwoRounds.{two_rounds, script}
+use Rattle.run_rules.specs.Scripts.{script_in}
 use Rattle.run_rules.specs.Pairs.{run_text, session_text, script_world, simulated}
 use Rattle.run_rules.proofs.Samples.{scripting}
 
@@ -24,7 +27,26 @@ round : run_text true (nothing last) ≡ line (codes "a round 1 first 8 1 2") ++
 unfolding scripting
 round = refl
 
--- the same without the ids, as of a generated script
+-- the script that leads to it
+round_script : script_in (line (codes "a 68656c6c6f") ++ line (codes "b 616263") ++ line (codes "drain") ++ line (codes "round") ++ line (codes "drain")) ≡ Ok one_round
+unfolding scripting
+round_script = refl
+
+-- the pair behind two rounds, and the script that leads to it
+rounds : run_text true (nothing two_rounds) ≡ line (codes "a round 1 first 8 1 1") ++ line (codes "a round 2 first 8 0 1") ++ line (codes "b round 1 first 8 0 0") ++ line (codes "b round 2 first 8 1 1") ++ line (codes "phase a idle") ++ line (codes "phase b idle") ++ line (codes "pool a 2") ++ line hello ++ line abc ++ line (codes "pool b 2") ++ line abc ++ line hello ++ line (codes "drained yes")
+unfolding scripting
+rounds = refl
+
+rounds_script : script_in (line (codes "drain") ++ line (codes "round") ++ line (codes "ab 24") ++ line (codes "ab 4") ++ line (codes "a 68656c6c6f") ++ line (codes "ba 1000") ++ line (codes "b 616263") ++ line (codes "drain") ++ line (codes "round") ++ line (codes "drain")) ≡ Ok script
+unfolding scripting
+rounds_script = refl
+
+-- the pair that a script begins with is the one of the examples
+same_pair : script_world ≡ new_pair
+unfolding scripting
+same_pair = refl
+
+-- one round's text without the ids, as of a generated script
 without_ids : run_text false (nothing last) ≡ line (codes "a round 1 first 8 1 2") ++ line (codes "b round 1 first 8 1 1") ++ line (codes "phase a idle") ++ line (codes "phase b idle") ++ line (codes "pool a 2") ++ line (codes "pool b 2") ++ line (codes "drained yes")
 unfolding scripting
 without_ids = refl
