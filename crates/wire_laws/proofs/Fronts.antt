@@ -169,3 +169,7 @@ front_cut true magic place f n enough four sound h =
 pub front_of-cut : (magic : List ℕ) (place : ℕ) (f : Frame) (n : ℕ) → length magic ≡ 4 → IsFrame f → n < length (frame_bytes magic f)
     → front_of magic place (take n (frame_bytes magic f)) ≡ Partial
 front_of-cut magic place f n four sound h = front_cut (nat_le 24 n) magic place f n refl four sound h
+
+-- how many bytes a frame has
+pub frame-length : (magic : List ℕ) (f : Frame) → length magic ≡ 4 → IsFrame f → length (frame_bytes magic f) ≡ 24 + length f.payload
+frame-length magic f four sound = length-append (head_bytes magic f) f.payload ∙ ap (λ k. k + length f.payload) (head-length magic f four sound)

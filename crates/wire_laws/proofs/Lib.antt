@@ -3,3 +3,4 @@ pub mod Fronts
 pub mod Readers
 pub mod Messages
 pub mod Sound
+pub mod Streams

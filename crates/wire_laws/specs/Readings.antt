@@ -1,0 +1,10 @@
+-- What reading a stream without a fault gives.
+use Rattle.std.specs.Prelude.{◌≡◌, ℕ, List, None}
+use Rattle.wire_rules.specs.Stream.{StreamRead}
+use Rattle.wire_rules.specs.declared.message.Message.{Message}
+
+-- these messages, this rest, and no fault
+pub record IsReadAs (ms : List Message) (rest : List ℕ) (r : StreamRead) : Type 0 where
+  pub messages : r.messages ≡ ms
+  pub left : r.rest ≡ rest
+  pub unstopped : r.stop ≡ None
