@@ -6,7 +6,7 @@ use Rattle.id_rules.specs.SipHash.{sip24}
 use Rattle.id_rules.specs.Ids.{KeyPair, wtxid, keys_of, short_id}
 use Rattle.id_rules.proofs.Samples.{hashing, sipping, from_digits}
 
--- the paper's test vector, of appendix A: a key of the bytes 00 to 0f, a message of the bytes 00 to 0e
+-- the SipHash paper's test vector, of its appendix A: a key of the bytes 00 to 0f, a message of the bytes 00 to 0e
 vector : sip24 0x0706050403020100 0x0f0e0d0c0b0a0908 (from_digits (codes "000102030405060708090a0b0c0d0e")) ≡ 0xa129ca6149be45e5
 unfolding hashing sipping
 vector = refl
