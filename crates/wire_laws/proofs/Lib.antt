@@ -4,3 +4,6 @@ pub mod Readers
 pub mod Messages
 pub mod Sound
 pub mod Streams
+pub mod Taken
+pub mod TakenLists
+pub mod Said
