@@ -98,9 +98,6 @@ bad_stream place k = codes "bad input " ++ decimal place ++ codes ": " ++ stream
 abbrev pub truncated : Phase → List ℕ
 truncated p = codes "truncated " ++ phase_text p
 
-abbrev pub no_set : List ℕ
-no_set = codes "no set"
-
 abbrev pub link_fault : List ℕ
 link_fault = codes "link fault"
 
