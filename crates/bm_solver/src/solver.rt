@@ -1,8 +1,11 @@
 //! The search for the shortest recurrence.
 
-ghost use Rattle.std.specs.Prelude.{◌≡◌, ◌+◌, ◌<◌, ◌≤◌, List, ◌++◌, length, replicate, IfOk};
+ghost use Rattle.std.specs.Prelude.{◌≡◌, ◌≢◌, ◌+◌, ◌*◌, ◌<◌, ◌≤◌, List, ◌∷◌, ◌++◌, length, replicate, reverse, IfOk};
+ghost use Rattle.std.specs.List.{All, AllPairs};
+ghost use Rattle.sketch_rules.specs.Ops.{every_sum};
 ghost use Rattle.poly_rules.specs.Polynomials.{sum_of, scaled};
 ghost use Rattle.poly_rules.specs.Recurrences.{IsShortest};
+ghost use Rattle.poly_rules.specs.Roots.{with_roots};
 ghost use Rattle.recurrence_laws.specs.Solving.{IsSolving};
 
 use crate::Locator;
@@ -12,10 +15,14 @@ use std::alloc::Global;
 use std::mem;
 
 /// A shortest recurrence of `sums`: it holds of all of them, and none shorter does. The algorithm of Berlekamp, in the
-/// form of Massey 1969.
+/// form of Massey 1969. Of the sums of a set of nonzero elements, at least twice as many as it has members, it is as long
+/// as the set is large, and its monic polynomial is the product of `z + e` over the members e.
 pub fn shortest<F: Field>(alloc: Global, sums: &[F]) -> Result<Locator<F>, OutOfMemory>
     ensures shortest { IfOk result (λ locator. IsShortest F.ops locator sums.now) }
     ensures within { IfOk result (λ locator. length locator ≤ length sums.now) }
+    ensures set { (es : List F) → AllPairs (λ a b. a ≢ b) es → All (λ e. e ≢ F.ops.zero) es → 2 * length es ≤ length sums.now
+        → sums.now ≡ every_sum F.ops es 1 (length sums.now)
+        → IfOk result (λ locator. (length locator ≡ length es) × (reverse (F.ops.one ∷ locator) ≡ with_roots F.ops es)) }
 {
     let mut solver = Solver::new(alloc, sums.len())?;
     for n in 0..sums.len() {

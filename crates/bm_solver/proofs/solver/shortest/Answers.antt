@@ -1,4 +1,6 @@
 use Rattle.std.proofs.Common.{◌≡◌, length, arith, subst}
+use Rattle.poly_rules.specs.Recurrences.{IsShortest}
+use Rattle.splitting_laws.proofs.Recurrences.{shortest_of_set}
 use Rattle.recurrence_laws.specs.Solving.{IsSolving}
 use Rattle.recurrence_laws.proofs.Shortest.{solved, shortest_within}
 use Rattle.bm_solver.proofs.solver.shortest.Goals as goal
@@ -13,3 +15,8 @@ returns-clause-shortest g c =
 pub returns-clause-within : goal.returns-clause-within
 returns-clause-within g c =
     shortest_within g.F.Field.ops c.args.sums.now c.from_monic.result (returns-clause-shortest g c)
+
+pub returns-clause-set : goal.returns-clause-set
+returns-clause-set g c es differ nonzero few sums =
+    shortest_of_set g.F.Field.ops g.met.F.Field.ring g.F.Field.BITS g.met.F.Field.field c.from_monic.result es (length c.args.sums.now) differ nonzero few
+    (subst (IsShortest g.F.Field.ops c.from_monic.result) sums (returns-clause-shortest g c))
