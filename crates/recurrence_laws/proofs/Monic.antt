@@ -1,6 +1,6 @@
 -- A recurrence c_1, .., c_L as the monic polynomial c_L, .., c_1, 1.
 use Rattle.std.proofs.Common.{◌≡◌, ℕ, zero, suc, ◌+◌, ◌<◌, List, [], ◌∷◌, ◌++◌, length, drop, reverse, refl, sym, ap, ◌∙◌, arith}
-use Rattle.std.proofs.lemmas.List.{drop-drop, get_or_push, length-reverse}
+use Rattle.std.proofs.lemmas.List.{get_or-drop, get_or_push, length-reverse}
 use Rattle.std.proofs.lemmas.Grind.{reverse_onto}
 use Rattle.sketch_rules.specs.Ops.{Ops, IsRing}
 use Rattle.sketch_rules.specs.Fields.{dot_of}
@@ -33,13 +33,16 @@ module _ {A : Type 0} (ops : Ops A) (ring : IsRing ops) where
   dot_of-one (suc i) [] = refl
   dot_of-one (suc i) (x ∷ s) = dot_of-one i s
 
+  -- a 1 behind the factors meets the item past them
+  pub dot_of-end : (f s : List A) → dot_of ops (f ++ ops.one ∷ []) s ≡ ops.plus (dot_of ops f s) (coefficient ops s (length f))
+  dot_of-end f s = dot_of-append f (ops.one ∷ []) s ∙ ap (ops.plus (dot_of ops f s)) (dot_of-one (length f) s)
+
   -- what the monic form gives: the sum of what the recurrence foretells and of what stands there
   dot_of-monic : (cs s : List A) (k : ℕ) → dot_of ops (reverse (ops.one ∷ cs)) (drop k s) ≡ ops.plus (dot_of ops (reverse cs) (drop k s)) (coefficient ops s (k + length cs))
   dot_of-monic cs s k =
       ap (λ z. dot_of ops z (drop k s)) (reverse_onto cs ops.one [])
-      ∙ dot_of-append (reverse cs) (ops.one ∷ []) (drop k s)
-      ∙ ap (λ z. ops.plus (dot_of ops (reverse cs) (drop k s)) (dot_of ops (ops.one ∷ []) (drop z (drop k s)))) (length-reverse cs)
-      ∙ ap (ops.plus (dot_of ops (reverse cs) (drop k s))) (ap (dot_of ops (ops.one ∷ [])) (drop-drop (length cs) k s) ∙ dot_of-one (k + length cs) s)
+      ∙ dot_of-end (reverse cs) (drop k s)
+      ∙ ap (ops.plus (dot_of ops (reverse cs) (drop k s))) (ap (coefficient ops (drop k s)) (length-reverse cs) ∙ get_or-drop k s (length cs) ops.zero)
 
   -- where the recurrence holds, the monic form gives zero
   pub monic_from_recurs : (cs s : List A) → Recurs ops cs s → (k : ℕ) → k + length cs < length s → dot_of ops (reverse (ops.one ∷ cs)) (drop k s) ≡ ops.zero

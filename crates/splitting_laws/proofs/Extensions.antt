@@ -2,17 +2,20 @@
 -- vanishes on it.
 use Rattle.std.proofs.Common.{◌≡◌, ◌⊎◌, inl, inr, ℕ, zero, suc, ◌+◌, ◌-◌, ◌<◌, ◌≤◌, List, length, get_or, take, drop, refl, sym, ap, ◌∙◌, arith, add-one}
 use Rattle.std.specs.List.{All}
-use Rattle.std.proofs.lemmas.List.{length-drop, length-take, length-take-le, get_or-drop, take-take, take_all, take_more_same, drop-take}
+use Rattle.std.proofs.lemmas.List.{length-take, length-take-le, get_or-drop, take-take, take_all, take_more_same, drop-take}
 use Rattle.sketch_rules.specs.Ops.{Ops, IsRing, every_sum}
 use Rattle.sketch_rules.specs.Fields.{dot_of}
 use Rattle.poly_rules.specs.Polynomials.{coefficient, degree, IsMonic, value_at}
 use Rattle.poly_rules.specs.Recurrences.{Extends}
 use Rattle.poly_rules.specs.Roots.{IsRoot, with_roots}
+use Rattle.sketch_laws.proofs.EverySums.{length-every_sum}
 use Rattle.sketch_laws.proofs.RingFacts.{same_of_sum}
 use Rattle.poly_laws.proofs.Remainders.{monic-split}
 use Rattle.poly_laws.proofs.Roots.{with_roots-monic, with_roots-root}
-use Rattle.splitting_laws.proofs.Windows.{length-every_sum, take-every_sum, dot_of-take}
-use Rattle.splitting_laws.proofs.Recurrences.{dot_of-end, window_of_roots}
+use Rattle.recurrence_laws.proofs.Applied.{dot_of-take}
+use Rattle.recurrence_laws.proofs.Monic.{dot_of-end}
+use Rattle.splitting_laws.proofs.Windows.{take-every_sum}
+use Rattle.splitting_laws.proofs.Recurrences.{window_of_roots}
 
 module _ {A : Type 0} (ops : Ops A) where
   -- the next item is told by those before it
@@ -23,7 +26,7 @@ module _ {A : Type 0} (ops : Ops A) where
     where
       reads : (k : ℕ) (v : List A) → k + degree f ≡ i → dot_of ops (take (degree f) f) (drop k v) ≡ dot_of ops (take (degree f) f) (drop k (take i v))
       reads k v at =
-          sym (dot_of-take ops (take (degree f) f) (drop k v) (degree f) (omega (arith, length-take (degree f) f)))
+          sym (dot_of-take ops (degree f) (take (degree f) f) (drop k v) (omega (arith, length-take (degree f) f)))
           ∙ ap (dot_of ops (take (degree f) f)) (sym (drop-take k (degree f) v) ∙ ap (λ j. drop k (take j v)) at)
 
       by_window : (k : ℕ) → k + degree f ≡ i → coefficient ops s i ≡ coefficient ops t i
@@ -78,7 +81,7 @@ module _ {A : Type 0} (ops : Ops A) (ring : IsRing ops) where
           same_of_sum ops ring (coefficient ops s (k + degree f)) (dot_of ops (take (degree f) f) (drop k s))
           (ring.plus_comm (coefficient ops s (k + degree f)) (dot_of ops (take (degree f) f) (drop k s))
           ∙ ap (ops.plus (dot_of ops (take (degree f) f) (drop k s))) (sym (ap (λ j. get_or (drop k s) j ops.zero) low ∙ get_or-drop k s (degree f) ops.zero))
-          ∙ sym (dot_of-end ops ring (take (degree f) f) (drop k s) ops.zero (omega (arith, low, length-drop k s, length-every_sum ops es 1 n)))
+          ∙ sym (dot_of-end ops ring (take (degree f) f) (drop k s))
           ∙ ap (λ z. dot_of ops z (drop k s)) (sym (monic-split ops (degree f) f monic))
           ∙ window_of_roots ops ring f es k n roots (omega (arith, monic.size)))
 

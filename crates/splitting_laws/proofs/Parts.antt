@@ -17,7 +17,8 @@ use Rattle.sketch_laws.proofs.RingFacts.{zero_plus, times_zero, zero_times, plus
 use Rattle.sketch_laws.proofs.Weights.{weighted}
 use Rattle.poly_laws.proofs.Elements.{plus_turn}
 use Rattle.splitting_laws.specs.Parts.{IsWindows}
-use Rattle.splitting_laws.proofs.Windows.{length-every_sum, get_or-every_sum, dot_of-window}
+use Rattle.sketch_laws.proofs.EverySums.{length-every_sum, get_or-every_sum}
+use Rattle.splitting_laws.proofs.Windows.{dot_of-window}
 
 module _ {A : Type 0} (ops : Ops A) where
   -- t is one where the test passes, and zero where it fails

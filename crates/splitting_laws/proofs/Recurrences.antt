@@ -1,32 +1,23 @@
 -- The recurrences of the power sums of a set: the product of the factors x + e gives one, and a monic polynomial that
 -- gives a recurrence of enough sums vanishes on the set.
-use Rattle.std.proofs.Common.{◌≡◌, ◌≢◌, ◌⊎◌, inl, inr, ℕ, ◌+◌, ◌*◌, ◌<◌, ◌≤◌, List, [], ◌∷◌, ◌++◌, length, get_or, take, drop, reverse, refl, sym, ap, subst, ◌∙◌, arith, add-one}
+use Rattle.std.proofs.Common.{◌≡◌, ◌≢◌, ◌⊎◌, inl, inr, ℕ, ◌+◌, ◌*◌, ◌<◌, ◌≤◌, List, [], ◌∷◌, ◌++◌, length, get_or, take, drop, reverse, refl, sym, ap, subst, ◌∙◌, arith}
 use Rattle.std.specs.List.{All, AllPairs}
-use Rattle.std.proofs.lemmas.List.{length-reverse, length-take-le, length-drop, reverse-append, reverse-reverse, get_or_at, get_or-drop, ext_get_or}
+use Rattle.std.proofs.lemmas.List.{length-reverse, length-take-le, reverse-reverse, ext_get_or}
+use Rattle.std.proofs.lemmas.Grind.{reverse_onto}
 use Rattle.sketch_rules.specs.Ops.{Ops, IsRing, every_sum}
 use Rattle.sketch_rules.specs.Fields.{IsField, dot_of}
-use Rattle.poly_rules.specs.Polynomials.{coefficient, Same, IsMonic, value_at}
+use Rattle.poly_rules.specs.Polynomials.{Same, IsMonic, value_at}
 use Rattle.poly_rules.specs.Roots.{IsRoot, with_roots}
 use Rattle.poly_rules.specs.Recurrences.{Recurs, IsShortest}
-use Rattle.sketch_laws.proofs.RingFacts.{zero_plus, times_zero, one_times, same_of_sum}
+use Rattle.sketch_laws.proofs.RingFacts.{times_zero}
+use Rattle.sketch_laws.proofs.EverySums.{length-every_sum}
 use Rattle.sketch_laws.proofs.Weights.{weighted-zero, lone_weight}
 use Rattle.poly_laws.proofs.Remainders.{monic-split}
 use Rattle.poly_laws.proofs.Roots.{with_roots-monic, with_roots-root, roots_within, factors_of_roots}
-use Rattle.splitting_laws.proofs.Windows.{length-every_sum, dot_of-window}
+use Rattle.recurrence_laws.proofs.Monic.{monic_form, monic_from_recurs, recurs_from_monic}
+use Rattle.splitting_laws.proofs.Windows.{dot_of-window}
 
 module _ {A : Type 0} (ops : Ops A) where
-  -- ---- the polynomial of a recurrence: x ^ L + c_1 * x ^ (L - 1) + .. + c_L
-
-  reverse-monic : (cs : List A) → reverse (ops.one ∷ cs) ≡ reverse cs ++ ops.one ∷ []
-  reverse-monic cs = reverse-append (ops.one ∷ []) cs
-
-  -- it is monic, of as high a degree as the recurrence is long
-  pub monic_of_recurrence : (cs : List A) → IsMonic ops (length cs) (reverse (ops.one ∷ cs))
-  monic_of_recurrence cs = record {
-    size = length-reverse (ops.one ∷ cs) ∙ sym (add-one (length cs));
-    top = ap (λ z. coefficient ops z (length cs)) (reverse-monic cs) ∙ get_or_at (reverse cs) ops.one [] ops.zero (length cs) (length-reverse cs);
-  }
-
   -- monic polynomials of one degree that are the same are one list
   pub monic_same : (n : ℕ) (f g : List A) → IsMonic ops n f → IsMonic ops n g → Same ops f g → f ≡ g
   monic_same n f g monic_f monic_g same = ext_get_or ops.zero f g (monic_f.size ∙ sym monic_g.size) (λ i lt. same.each i)
@@ -36,37 +27,6 @@ module _ {A : Type 0} (ops : Ops A) where
   recurrence_of es = reverse (take (length es) (with_roots ops es))
 
 module _ {A : Type 0} (ops : Ops A) (ring : IsRing ops) where
-  -- ---- a recurrence holds where its polynomial's dots with the windows are zero
-
-  -- the dot of u and a one with a longer list
-  pub dot_of-end : (u s : List A) (d : A) → length u < length s → dot_of ops (u ++ ops.one ∷ []) s ≡ ops.plus (dot_of ops u s) (get_or s (length u) d)
-  unfolding dot_of
-  dot_of-end [] [] d lt = absurd (omega arith)
-  dot_of-end [] (x ∷ s) d lt = ring.plus_zero (ops.times ops.one x) ∙ one_times ops ring x ∙ sym (zero_plus ops ring x)
-  dot_of-end (a ∷ u) [] d lt = absurd (omega arith)
-  dot_of-end (a ∷ u) (x ∷ s) d lt = ap (ops.plus (ops.times a x)) (dot_of-end u s d (omega arith)) ∙ sym (ring.plus_assoc (ops.times a x) (dot_of ops u s) (get_or s (length u) d))
-
-  dot_of-recurrence : (cs s : List A) (k : ℕ) → k + length cs < length s
-      → dot_of ops (reverse (ops.one ∷ cs)) (drop k s) ≡ ops.plus (dot_of ops (reverse cs) (drop k s)) (coefficient ops s (k + length cs))
-  dot_of-recurrence cs s k lt =
-      let size : length (reverse cs) ≡ length cs = length-reverse cs in
-      ap (λ z. dot_of ops z (drop k s)) (reverse-monic ops cs)
-      ∙ dot_of-end (reverse cs) (drop k s) ops.zero (omega (arith, length-drop k s))
-      ∙ ap (ops.plus (dot_of ops (reverse cs) (drop k s))) (ap (λ j. get_or (drop k s) j ops.zero) size ∙ get_or-drop k s (length cs) ops.zero)
-
-  pub windows_of_recurs : (cs s : List A) → Recurs ops cs s → (k : ℕ) → k + length cs < length s → dot_of ops (reverse (ops.one ∷ cs)) (drop k s) ≡ ops.zero
-  windows_of_recurs cs s holds k lt =
-      dot_of-recurrence cs s k lt
-      ∙ ap (ops.plus (dot_of ops (reverse cs) (drop k s))) (holds.each k lt)
-      ∙ ring.plus_self (dot_of ops (reverse cs) (drop k s))
-
-  pub recurs_of_windows : (cs s : List A) → ((k : ℕ) → k + length cs < length s → dot_of ops (reverse (ops.one ∷ cs)) (drop k s) ≡ ops.zero) → Recurs ops cs s
-  recurs_of_windows cs s none = record {
-    each = λ k lt.
-        same_of_sum ops ring (coefficient ops s (k + length cs)) (dot_of ops (reverse cs) (drop k s))
-        (ring.plus_comm (coefficient ops s (k + length cs)) (dot_of ops (reverse cs) (drop k s)) ∙ sym (dot_of-recurrence cs s k lt) ∙ none k lt);
-  }
-
   -- ---- the sums of a set
 
   -- a polynomial that vanishes on the set has no dot with the sums
@@ -86,14 +46,14 @@ module _ {A : Type 0} (ops : Ops A) (ring : IsRing ops) where
   pub recurrence_of-polynomial : (es : List A) → reverse (ops.one ∷ recurrence_of ops es) ≡ with_roots ops es
   unfolding recurrence_of
   recurrence_of-polynomial es =
-      reverse-monic ops (recurrence_of ops es)
+      reverse_onto (recurrence_of ops es) ops.one []
       ∙ ap (λ z. z ++ ops.one ∷ []) (reverse-reverse (take (length es) (with_roots ops es)))
       ∙ sym (monic-split ops (length es) (with_roots ops es) (with_roots-monic ops ring es))
 
   -- and it holds of all sums
   pub recurrence_of-holds : (es : List A) (n : ℕ) → Recurs ops (recurrence_of ops es) (every_sum ops es 1 n)
   recurrence_of-holds es n =
-      recurs_of_windows (recurrence_of ops es) (every_sum ops es 1 n)
+      recurs_from_monic ops ring (recurrence_of ops es) (every_sum ops es 1 n)
       (λ k lt.
       ap (λ z. dot_of ops z (drop k (every_sum ops es 1 n))) (recurrence_of-polynomial es)
       ∙ window_of_roots (with_roots ops es) es k n (with_roots-root ops ring es)
@@ -128,14 +88,14 @@ module _ {A : Type 0} (ops : Ops A) (ring : IsRing ops) where
     pub roots_of_recurs : (cs es : List A) (n : ℕ) → AllPairs (λ a b. a ≢ b) es → All (λ e. e ≢ ops.zero) es → length cs + length es ≤ n
         → Recurs ops cs (every_sum ops es 1 n) → All (IsRoot ops (reverse (ops.one ∷ cs))) es
     roots_of_recurs cs es n differ nonzero long holds =
-        roots_of_windows (reverse (ops.one ∷ cs)) es n differ nonzero (omega (arith, (monic_of_recurrence ops cs).size))
-        (λ k lt. windows_of_recurs cs (every_sum ops es 1 n) holds k (omega (arith, length-every_sum ops es 1 n)))
+        roots_of_windows (reverse (ops.one ∷ cs)) es n differ nonzero (omega (arith, (monic_form ops ring cs).size))
+        (λ k lt. monic_from_recurs ops ring cs (every_sum ops es 1 n) holds k (omega (arith, length-every_sum ops es 1 n)))
 
     -- so it is no shorter than the set is large
     pub recurs_within : (cs es : List A) (n : ℕ) → AllPairs (λ a b. a ≢ b) es → All (λ e. e ≢ ops.zero) es → length cs + length es ≤ n
         → Recurs ops cs (every_sum ops es 1 n) → length es ≤ length cs
     recurs_within cs es n differ nonzero long holds =
-        roots_within ops ring field.apart field.no_zero_divisor (length cs) (reverse (ops.one ∷ cs)) es (monic_of_recurrence ops cs)
+        roots_within ops ring field.apart field.no_zero_divisor (length cs) (reverse (ops.one ∷ cs)) es (monic_form ops ring cs)
         (roots_of_recurs cs es n differ nonzero long holds) differ
 
     -- and where it is as short as the set, its polynomial is the product of the factors
@@ -147,7 +107,7 @@ module _ {A : Type 0} (ops : Ops A) (ring : IsRing ops) where
         (roots_of_recurs cs es n differ nonzero long holds) differ)
       where
         monic : IsMonic ops (length es) (reverse (ops.one ∷ cs))
-        monic = subst (λ z. IsMonic ops z (reverse (ops.one ∷ cs))) even (monic_of_recurrence ops cs)
+        monic = subst (λ z. IsMonic ops z (reverse (ops.one ∷ cs))) even (monic_form ops ring cs)
 
     -- the shortest recurrence of the sums is that of the set, where it and the set aren't too large for the sums
     shortest_only : (cs es : List A) (n : ℕ) → AllPairs (λ a b. a ≢ b) es → All (λ e. e ≢ ops.zero) es → length cs + length es ≤ n

@@ -1,6 +1,6 @@
 -- Dots of a polynomial with windows of the power sums of a set: each is a sum, over the elements, of the polynomial's
 -- values, weighted by powers.
-use Rattle.std.proofs.Common.{◌≡◌, ℕ, zero, suc, ◌+◌, ◌-◌, ◌<◌, ◌≤◌, List, [], ◌∷◌, length, get_or, take, drop, refl, sym, ap, ◌∙◌, arith, add-one}
+use Rattle.std.proofs.Common.{◌≡◌, ℕ, zero, suc, ◌+◌, ◌-◌, ◌≤◌, List, [], ◌∷◌, length, take, drop, refl, sym, ap, ◌∙◌, arith, add-one}
 use Rattle.std.proofs.Math.Nat.{suc-add}
 use Rattle.sketch_rules.specs.Ops.{Ops, IsRing, power, power_sum, every_sum}
 use Rattle.sketch_rules.specs.Fields.{dot_of}
@@ -10,20 +10,6 @@ use Rattle.sketch_laws.proofs.Weights.{weighted, weighted-zero}
 
 module _ {A : Type 0} (ops : Ops A) where
   -- ---- the list of sums
-
-  pub length-every_sum : (es : List A) (k n : ℕ) → length (every_sum ops es k n) ≡ n
-  unfolding every_sum
-  length-every_sum es k zero = refl
-  length-every_sum es k (suc n) = ap suc (length-every_sum es (k + 1) n)
-
-  -- the sum at a place
-  pub get_or-every_sum : (es : List A) (k n i : ℕ) (d : A) → i < n → get_or (every_sum ops es k n) i d ≡ power_sum ops (k + i) es
-  unfolding every_sum
-  get_or-every_sum es k zero i d lt = absurd (omega arith)
-  get_or-every_sum es k (suc n) zero d lt = let same : k ≡ k + 0 = omega arith in ap (λ j. power_sum ops j es) same
-  get_or-every_sum es k (suc n) (suc i) d lt =
-      let same : k + 1 + i ≡ k + suc i = omega arith in
-      get_or-every_sum es (k + 1) n i d (omega arith) ∙ ap (λ j. power_sum ops j es) same
 
   -- the sums from a place on
   drop_first : (es : List A) (k j m : ℕ) → drop j (every_sum ops es k (j + m)) ≡ every_sum ops es (k + j) m
@@ -49,16 +35,6 @@ module _ {A : Type 0} (ops : Ops A) where
   take-every_sum es k zero n le = refl
   take-every_sum es k (suc m) zero le = absurd (omega arith)
   take-every_sum es k (suc m) (suc n) le = ap (λ z. power_sum ops k es ∷ z) (take-every_sum es (k + 1) m n (omega arith))
-
-  -- ---- dots
-
-  -- a dot reads no more of a list than the other has
-  pub dot_of-take : (f xs : List A) (n : ℕ) → length f ≤ n → dot_of ops f (take n xs) ≡ dot_of ops f xs
-  unfolding dot_of
-  dot_of-take [] xs n le = refl
-  dot_of-take (a ∷ f) xs zero le = absurd (omega arith)
-  dot_of-take (a ∷ f) [] (suc n) le = refl
-  dot_of-take (a ∷ f) (x ∷ xs) (suc n) le = ap (ops.plus (ops.times a x)) (dot_of-take f xs n (omega arith))
 
 module _ {A : Type 0} (ops : Ops A) (ring : IsRing ops) where
   -- ---- the sum over the elements

@@ -12,7 +12,7 @@ use Rattle.sketch_laws.proofs.RingFacts.{times_zero}
 use Rattle.splitting_laws.specs.Alike.{IsAlike}
 use Rattle.splitting_laws.proofs.Alike.{alike_end, alike_more}
 use Rattle.splitting_laws.proofs.Factors.{power_sum-lone}
-use Rattle.splitting_laws.proofs.Windows.{get_or-every_sum}
+use Rattle.sketch_laws.proofs.EverySums.{get_or-every_sum}
 use Rattle.trace_roots.specs.Parts.{Fits, IsTrace, IsPart}
 use Rattle.trace_roots.proofs.Parting.{degree_of_set}
 

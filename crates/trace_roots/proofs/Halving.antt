@@ -17,7 +17,7 @@ use Rattle.splitting_laws.proofs.Alike.{alike_in_part, alike_in_others}
 use Rattle.splitting_laws.proofs.Parts.{IsToldBy, told_by_bits, sums_of_part, sums_of_others, power_sum-parts, parts-length, part-differ, part-nonzero, parts-together}
 use Rattle.splitting_laws.proofs.Recurrences.{smaller_part, shortest_within}
 use Rattle.splitting_laws.proofs.Returns.{constant_of_values}
-use Rattle.splitting_laws.proofs.Windows.{length-every_sum, get_or-every_sum}
+use Rattle.sketch_laws.proofs.EverySums.{length-every_sum, get_or-every_sum}
 use Rattle.trace_roots.specs.Added.{AreAdded}
 use Rattle.trace_roots.specs.Parts.{IsSet, AreTraces, IsPart, AreSides, IsSmaller, IsSplit}
 

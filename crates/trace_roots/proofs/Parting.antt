@@ -11,8 +11,9 @@ use Rattle.poly_laws.proofs.Roots.{with_roots-monic, with_roots-root}
 use Rattle.poly_laws.proofs.Values.{value_at-remainder}
 use Rattle.poly_rules.specs.Recurrences.{Extends, IsShortest}
 use Rattle.sketch_laws.proofs.RingFacts.{plus_again}
-use Rattle.splitting_laws.proofs.Windows.{length-every_sum, get_or-every_sum}
-use Rattle.splitting_laws.proofs.Recurrences.{monic_of_recurrence, shortest_of_set}
+use Rattle.sketch_laws.proofs.EverySums.{length-every_sum, get_or-every_sum}
+use Rattle.recurrence_laws.proofs.Monic.{monic_form}
+use Rattle.splitting_laws.proofs.Recurrences.{shortest_of_set}
 use Rattle.splitting_laws.proofs.Extensions.{sums_extended}
 use Rattle.trace_roots.specs.Added.{AreAdded}
 use Rattle.trace_roots.specs.Parts.{Fits, IsSet, AreTraces, IsPart, AreHalves}
@@ -21,9 +22,6 @@ use Rattle.trace_roots.specs.Parts.{Fits, IsSet, AreTraces, IsPart, AreHalves}
 pub record AreRemainders {A : Type 0} (ops : Ops A) (f : List A) (traces rests : List (List A)) : Type 0 where
   pub size : length rests ≡ length traces
   pub each : (i : ℕ) → i < length traces → IsRemainder ops (get_or traces i []) f (get_or rests i [])
-
-pub recurrence_degree : {A : Type 0} (ops : Ops A) (f cs : List A) → f ≡ reverse (ops.one ∷ cs) → degree f ≡ length cs
-recurrence_degree ops f cs is = let monic : IsMonic ops (length cs) (reverse (ops.one ∷ cs)) = monic_of_recurrence ops cs in omega (arith, ap length is, monic.size)
 
 module _ {A : Type 0} (ops : Ops A) (ring : IsRing ops) where
   pub degree_of_set : (f es : List A) → f ≡ with_roots ops es → degree f ≡ length es
@@ -64,8 +62,11 @@ module _ {A : Type 0} (ops : Ops A) (ring : IsRing ops) where
   }
 
   -- the polynomial of a recurrence
+  recurrence_degree : (f cs : List A) → f ≡ reverse (ops.one ∷ cs) → degree f ≡ length cs
+  recurrence_degree f cs is = let monic : IsMonic ops (length cs) (reverse (ops.one ∷ cs)) = monic_form ops ring cs in omega (arith, ap length is, monic.size)
+
   pub recurrence_monic : (f cs : List A) → f ≡ reverse (ops.one ∷ cs) → IsMonic ops (degree f) f
-  recurrence_monic f cs is = subst (λ n. IsMonic ops n f) (sym (recurrence_degree ops f cs is)) (subst (IsMonic ops (length cs)) (sym is) (monic_of_recurrence ops cs))
+  recurrence_monic f cs is = subst (λ n. IsMonic ops n f) (sym (recurrence_degree f cs is)) (subst (IsMonic ops (length cs)) (sym is) (monic_form ops ring cs))
 
   -- ---- the two halves of a set
   module _ (bits_of : A → ℕ) (width first : ℕ) (small large sums : List A) (traces : List (List A)) (halves : AreHalves ops bits_of width first small large sums traces) where

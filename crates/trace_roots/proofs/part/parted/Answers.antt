@@ -2,7 +2,8 @@ use Rattle.std.proofs.Common.{◌≡◌, ◌+◌, ◌-◌, ◌*◌, ◌∷◌, l
 use Rattle.sketch_rules.specs.Ops.{every_sum}
 use Rattle.poly_rules.specs.Roots.{with_roots}
 use Rattle.poly_rules.specs.Recurrences.{IsShortest}
-use Rattle.splitting_laws.proofs.Windows.{length-every_sum, take-every_sum}
+use Rattle.sketch_laws.proofs.EverySums.{length-every_sum}
+use Rattle.splitting_laws.proofs.Windows.{take-every_sum}
 use Rattle.trace_roots.specs.Added.{AreAdded}
 use Rattle.trace_roots.specs.Parts.{AreTraces}
 use Rattle.trace_roots.proofs.Parting.{both_sums, large_recurrence}
