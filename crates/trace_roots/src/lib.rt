@@ -6,6 +6,8 @@ mod decoding;
 mod members;
 mod part;
 mod splitting;
+#[cfg(test)]
+mod tests;
 mod traces;
 mod windows;
 

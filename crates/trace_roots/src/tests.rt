@@ -1,0 +1,245 @@
+//! Small sketches whose sets are known, and larger ones of sets that were chosen first.
+
+ghost use Rattle.std.specs.Prelude.{◌≢◌, IsTrue};
+
+use super::*;
+use base_types::OutOfMemory;
+use bm_solver::shortest;
+use field_core::{Field, Gf32};
+use sketch_core::{Decoded, MAX_CAPACITY, Sketch};
+use std::alloc::Global;
+
+/// The elements of these numbers.
+fn elements(alloc: Global, numbers: &[u32]) -> Result<Vec<Gf32>, OutOfMemory> {
+    let mut items = Vec::with_capacity(alloc, numbers.len())?;
+    for number in numbers {
+        items.push(Gf32::new(*number))?;
+    }
+    Ok(items)
+}
+
+/// The numbers of these elements.
+fn numbers(alloc: Global, elements: &[Gf32]) -> Result<Vec<u32>, OutOfMemory> {
+    let mut items = Vec::with_capacity(alloc, elements.len())?;
+    for element in elements {
+        items.push(element.get())?;
+    }
+    Ok(items)
+}
+
+/// The sketch of these sums.
+fn sketch_from(alloc: Global, sums: &[u32]) -> Result<Sketch<Gf32>, OutOfMemory> {
+    let items = elements(alloc, sums)?;
+    if items.is_empty() || MAX_CAPACITY < items.len() {
+        return Err(OutOfMemory);
+    }
+    Ok(Sketch::from_sums(items))
+}
+
+/// Whether it is not 0.
+fn is_nonzero<F: Field>(e: F) -> bool
+    ensures { IsTrue result → e ≢ F.ops.zero }
+{
+    e != F::ZERO
+}
+
+/// The sketch of the set of these numbers.
+fn sketch_of(alloc: Global, set: &[u32], capacity: usize) -> Result<Sketch<Gf32>, OutOfMemory> {
+    let Ok(mut sketch) = Sketch::empty(alloc, capacity) else {
+        return Err(OutOfMemory);
+    };
+    for number in set {
+        let element = Gf32::new(*number);
+        if is_nonzero(element) {
+            sketch.toggle(element);
+        }
+    }
+    Ok(sketch)
+}
+
+/// The set that a sketch is of, as numbers.
+fn decoded(alloc: Global, sketch: &Sketch<Gf32>) -> Result<Option<Vec<u32>>, OutOfMemory> {
+    match decode::<Gf32>(alloc, sketch)? {
+        Decoded::Found(set) => Ok(Some(numbers(alloc, set.as_slice())?)),
+        Decoded::NoSet => Ok(None),
+    }
+}
+
+/// Whether these sums are decoded to this set.
+fn gives(alloc: Global, sums: &[u32], set: &[u32]) -> Result<bool, OutOfMemory> {
+    let sketch = sketch_from(alloc, sums)?;
+    let found = decoded(alloc, &sketch)?;
+    Ok(matches!(&found, Some(items) if items.as_slice() == set))
+}
+
+/// Whether these sums are decoded to no set.
+fn gives_none(alloc: Global, sums: &[u32]) -> Result<bool, OutOfMemory> {
+    let sketch = sketch_from(alloc, sums)?;
+    let found = decoded(alloc, &sketch)?;
+    Ok(matches!(&found, None))
+}
+
+/// Whether the sketch of this capacity of a set, given ascending, is decoded to that set.
+fn comes_back(alloc: Global, set: &[u32], capacity: usize) -> Result<bool, OutOfMemory> {
+    let sketch = sketch_of(alloc, set, capacity)?;
+    let found = decoded(alloc, &sketch)?;
+    Ok(matches!(&found, Some(items) if items.as_slice() == set))
+}
+
+/// Whether the sketch of this capacity of a set is decoded to no set, or to one that has the same sketch.
+fn is_none_or_the_same(alloc: Global, set: &[u32], capacity: usize) -> Result<bool, OutOfMemory> {
+    let sketch = sketch_of(alloc, set, capacity)?;
+    let Some(found) = decoded(alloc, &sketch)? else {
+        return Ok(true);
+    };
+    let other = sketch_of(alloc, found.as_slice(), capacity)?;
+    Ok(found.len() <= capacity && other.sums() == sketch.sums())
+}
+
+/// A number that looks random. It is another one for each place, and 0 at place 0 alone.
+fn scrambled(place: u32) -> u32 {
+    let first = place.wrapping_mul(0x9e37_79b1);
+    let second = (first ^ (first >> 15)).wrapping_mul(0x85eb_ca77);
+    second ^ (second >> 13)
+}
+
+/// As many numbers from the place on, ascending.
+fn random_set(alloc: Global, place: u32, size: usize) -> Result<Vec<u32>, OutOfMemory> {
+    let mut set = Vec::with_capacity(alloc, size)?;
+    let mut next = place;
+    for _ in 0..size {
+        set.push(scrambled(next))?;
+        next = next.wrapping_add(1);
+    }
+    set.sort()?;
+    Ok(set)
+}
+
+/// A basis of the sums of these elements whose products with `b` have trace 0, where these are a basis of all sums.
+fn without_trace(alloc: Global, basis: &[Gf32], b: Gf32) -> Result<Vec<Gf32>, OutOfMemory> {
+    let mut rest = Vec::with_capacity(alloc, basis.len())?;
+    let mut first: Option<Gf32> = None;
+    for element in basis {
+        if !b.mul(*element).trace() {
+            rest.push(*element)?;
+        } else if let Some(pivot) = first {
+            rest.push(element.add(pivot))?;
+        } else {
+            first = Some(*element);
+        }
+    }
+    Ok(rest)
+}
+
+/// The elements whose products with the elements 1, x, .., x ^ 30 have trace 0: 0 and the one that comes back.
+fn last_of_the_dual_basis(alloc: Global) -> Result<Vec<Gf32>, OutOfMemory> {
+    let mut basis = Vec::with_capacity(alloc, 32)?;
+    for j in 0..32 {
+        basis.push(Gf32::basis(j))?;
+    }
+    for j in 0..31 {
+        basis = without_trace(alloc, basis.as_slice(), Gf32::basis(j))?;
+    }
+    Ok(basis)
+}
+
+#[test]
+fn sums_are_decoded_to_their_set(rt: HostRuntime) {
+    let alloc = rt.alloc();
+    assert_eq!(rt; gives(alloc, &[3, 9], &[1, 2]), Ok(true));
+    assert_eq!(rt; gives(alloc, &[0, 6, 0x12, 0x7e], &[1, 2, 3]), Ok(true));
+    assert_eq!(rt; gives(alloc, &[3], &[3]), Ok(true));
+}
+
+#[test]
+fn sums_of_no_set_are_decoded_to_none(rt: HostRuntime) {
+    let alloc = rt.alloc();
+    assert_eq!(rt; gives_none(alloc, &[0, 6]), Ok(true));
+    assert_eq!(rt; gives_none(alloc, &[0, 1, 1, 1]), Ok(true));
+}
+
+#[test]
+fn two_elements_look_like_their_sum_at_capacity_1(rt: HostRuntime) {
+    let alloc = rt.alloc();
+    let sketch = Sketch::of(alloc, &[Gf32::new(1), Gf32::new(2)], 1).expect(&rt, "memory");
+    let found = decoded(alloc, &sketch).expect(&rt, "memory");
+    assert!(rt; matches!(&found, Some(set) if set.as_slice() == [3].as_slice()));
+}
+
+#[test]
+fn zeros_are_decoded_to_the_empty_set(rt: HostRuntime) {
+    let alloc = rt.alloc();
+    let sketch = Sketch::<Gf32>::empty(alloc, 1024).expect(&rt, "memory");
+    let found = decoded(alloc, &sketch).expect(&rt, "memory");
+    assert!(rt; matches!(&found, Some(set) if set.is_empty()));
+}
+
+#[test]
+fn one_element_is_found(rt: HostRuntime) {
+    let alloc = rt.alloc();
+    for capacity in [1, 5] {
+        for number in [1, 0x8000_0000, 0xffff_ffff] {
+            assert_eq!(rt;
+                comes_back(alloc, &[number], capacity),
+                Ok(true),
+                "{number} at {capacity}"
+            );
+        }
+    }
+}
+
+#[test]
+fn all_sums_of_two_elements_are_split(rt: HostRuntime) {
+    let alloc = rt.alloc();
+    let sketch = sketch_from(alloc, &[3, 9]).expect(&rt, "memory");
+    let sums = sketch.all_sums(alloc).expect(&rt, "memory");
+    let want = [Gf32::new(3), Gf32::new(5), Gf32::new(9), Gf32::new(0x11)];
+    assert_eq!(rt; sums.as_slice(), want.as_slice());
+    let locator = shortest(alloc, sums.as_slice()).expect(&rt, "memory");
+    assert!(rt; locator.length() <= sketch.capacity());
+    let found = split(alloc, &locator, sums.as_slice()).expect(&rt, "memory");
+    let set = [Gf32::new(1), Gf32::new(2)];
+    assert!(rt; matches!(&found, Some(members) if members.as_slice() == set.as_slice()));
+}
+
+#[test]
+fn sets_within_the_capacity_come_back(rt: HostRuntime) {
+    let alloc = rt.alloc();
+    for size in [1, 2, 3, 7, 31, 64, 150, 300] {
+        let set = random_set(alloc, 17, size).expect(&rt, "memory");
+        for capacity in [size, size + 1, 2 * size] {
+            let same = comes_back(alloc, set.as_slice(), capacity);
+            assert_eq!(rt; same, Ok(true), "{size} elements at {capacity}");
+        }
+    }
+}
+
+#[test]
+fn larger_sets_are_decoded_to_none_or_to_one_of_the_same_sketch(rt: HostRuntime) {
+    let alloc = rt.alloc();
+    for size in [2, 3, 7, 31, 64, 150, 300] {
+        let set = random_set(alloc, 4711, size).expect(&rt, "memory");
+        for capacity in [size / 2, size - 1] {
+            let holds = is_none_or_the_same(alloc, set.as_slice(), capacity);
+            assert_eq!(rt; holds, Ok(true), "{size} elements at {capacity}");
+        }
+    }
+}
+
+#[test]
+fn the_last_basis_element_alone_tells_two_apart(rt: HostRuntime) {
+    let alloc = rt.alloc();
+    let left = last_of_the_dual_basis(alloc).expect(&rt, "memory");
+    assert_eq!(rt; left.len(), 1);
+    for difference in &left {
+        for j in 0..32 {
+            assert_eq!(rt; Gf32::basis(j).mul(*difference).trace(), j == 31, "at {j}");
+        }
+        for number in [1, 2, 0x1234_5678] {
+            let other = number ^ difference.get();
+            let set = [number.min(other), number.max(other)];
+            assert!(rt; set[0] != 0 && set[0] != set[1]);
+            assert_eq!(rt; comes_back(alloc, &set, 2), Ok(true), "with {number}");
+        }
+    }
+}
