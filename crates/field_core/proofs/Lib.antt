@@ -1,3 +1,6 @@
+pub mod Blocks
+pub mod LaneLists
+pub mod LaneProducts
 pub mod Nibbles
 pub mod OddPowers
 pub mod Reductions

@@ -3,12 +3,15 @@
 ghost use Rattle.std.specs.Prelude.{◌≡◌, ℕ, ◌<◌, ◌^◌};
 
 use crate::Field;
-use crate::axpy::{axpy_by_multiples, axpy_by_products};
+use crate::axpy::{axpy_by_lanes, axpy_by_multiples, axpy_by_products};
 use crate::carryless::{carryless, product, reduce};
 use crate::odd_powers::{add_by_multiples, add_by_products};
 
 /// From how many places on the multiples of a factor are worth making.
 const MULTIPLES_PAY_FROM: usize = 16;
+
+/// From how many places on they are worth making for sixteen places at once.
+const LANES_PAY_FROM: usize = 48;
 
 /// An element of the field of 2 ^ 32 elements, modulo `x ^ 32 + x ^ 7 + x ^ 3 + x ^ 2 + 1`. Bit i is the coefficient
 /// of `x ^ i`.
@@ -99,8 +102,10 @@ impl Field for Gf32 {
     fn axpy(acc: &mut [Gf32], k: Gf32, x: &[Gf32]) {
         if acc.len() < MULTIPLES_PAY_FROM {
             axpy_by_products(acc, k, x)
-        } else {
+        } else if acc.len() < LANES_PAY_FROM {
             axpy_by_multiples(acc, k, x)
+        } else {
+            axpy_by_lanes(acc, k, x)
         }
     }
 

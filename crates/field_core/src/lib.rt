@@ -5,6 +5,8 @@ mod axpy;
 mod carryless;
 mod field;
 mod gf32;
+mod lane_multiples;
+mod lanes;
 mod multiples;
 mod odd_powers;
 #[cfg(test)]
@@ -12,4 +14,5 @@ mod tests;
 
 pub use field::Field;
 pub use gf32::Gf32;
+pub use lane_multiples::LaneMultiples;
 pub use multiples::Multiples;

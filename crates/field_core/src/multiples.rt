@@ -2,7 +2,7 @@
 
 ghost use Rattle.std.specs.Prelude.{◌≡◌, ℕ, ◌*◌, ◌/◌, ◌%◌, ◌<◌, ◌^◌, slice_index};
 ghost use Rattle.sketch_rules.specs.Elements.{product};
-ghost use Rattle.field_core.specs.Tables.{AreTables};
+ghost use Rattle.field_core.specs.Tables.{AreTables, IsTable};
 
 use std::marker::Model;
 
@@ -34,6 +34,14 @@ impl Multiples {
             shifted = doubled(multiples[8]);
         }
         Multiples { factor, tables }
+    }
+
+    /// The table for nibble i of the other factor, where nibble 0 is the lowest.
+    pub fn table(&self, i: usize) -> [u32; 16]
+        requires { i < 8 }
+        ensures { IsTable self.now i result }
+    {
+        self.tables[i]
     }
 
     /// The product of the factor and `b`, both as the bits of elements of the field of 2 ^ 32 elements.

@@ -3,7 +3,7 @@
 
 ghost use Rattle.std.specs.Prelude.{◌≡◌, ◌<◌, length};
 
-use crate::axpy::{axpy_by_multiples, axpy_by_products};
+use crate::axpy::{axpy_by_lanes, axpy_by_multiples, axpy_by_products};
 use crate::{Field, Gf32};
 
 fn inverse(bits: u32) -> u32
@@ -89,11 +89,14 @@ fn each_way_adds_the_same_multiple(rt: HostRuntime) {
         let k = x[67 - len];
         let mut by_products = [Gf32::new(5); 68];
         let mut by_multiples = by_products;
+        let mut by_lanes = by_products;
         let mut through_the_bound = by_products;
         axpy_by_products(&mut by_products[..len], k, &x[..len]);
         axpy_by_multiples(&mut by_multiples[..len], k, &x[..len]);
+        axpy_by_lanes(&mut by_lanes[..len], k, &x[..len]);
         add_multiple(&mut through_the_bound[..len], k, &x[..len]);
         assert_eq!(rt; by_multiples, by_products, "at length {len}");
+        assert_eq!(rt; by_lanes, by_products, "at length {len}");
         assert_eq!(rt; through_the_bound, by_products, "at length {len}");
     }
 }
