@@ -69,6 +69,14 @@ module _ {A : Type 0} (ops : Ops A) (ring : IsRing ops) where
   recurrence_monic f cs is = subst (λ n. IsMonic ops n f) (sym (recurrence_degree f cs is)) (subst (IsMonic ops (length cs)) (sym is) (monic_form ops ring cs))
 
   -- ---- the two halves of a set
+
+  -- the sums of both, and the recurrence of the larger one
+  pub record AreSolved (small large own rest ds : List A) : Type 0 where
+    pub own_is : own ≡ every_sum ops small 1 (2 * length large)
+    pub rest_is : rest ≡ every_sum ops large 1 (2 * length large)
+    pub size : length ds ≡ length large
+    pub polynomial : reverse (ops.one ∷ ds) ≡ with_roots ops large
+
   module _ (bits_of : A → ℕ) (width first : ℕ) (small large sums : List A) (traces : List (List A)) (halves : AreHalves ops bits_of width first small large sums traces) where
     -- the sums of the smaller one, continued
     pub small_sums : (f front own : List A) (n : ℕ) → front ≡ every_sum ops small 1 (length small + length large) → f ≡ with_roots ops small → n ≡ 2 * length large
@@ -102,9 +110,12 @@ module _ {A : Type 0} (ops : Ops A) (ring : IsRing ops) where
     large_recurrence field rest ds is shortest =
         shortest_of_set ops ring width field ds large (2 * length large) halves.large_set.distinct halves.large_set.nonzero (omega arith) (subst (IsShortest ops ds) is shortest)
 
-    -- both together
-    pub both_sums : (f front own whole rest : List A) (n : ℕ) → front ≡ every_sum ops small 1 (length small + length large) → f ≡ with_roots ops small → n ≡ 2 * length large
-        → Extends ops f front n own → whole ≡ sums → AreAdded ops own whole rest → (own ≡ every_sum ops small 1 (2 * length large)) × (rest ≡ every_sum ops large 1 (2 * length large))
-    both_sums f front own whole rest n front_is f_is same extends whole_is added =
+    -- all together, where own', sums' and rest' are what the calls were given for own, sums and rest
+    pub both_solved : IsField ops width → (f front own own' sums' rest rest' ds : List A) (n : ℕ) → front ≡ every_sum ops small 1 (length small + length large) → f ≡ with_roots ops small
+        → n ≡ 2 * length large → Extends ops f front n own → own' ≡ own → sums' ≡ sums → AreAdded ops own' sums' rest → rest' ≡ rest → IsShortest ops ds rest'
+        → AreSolved small large own rest ds
+    both_solved field f front own own' sums' rest rest' ds n front_is f_is same extends own_same sums_same added rest_same shortest =
         let own_is : own ≡ every_sum ops small 1 (2 * length large) = small_sums f front own n front_is f_is same extends in
-        (own_is, large_sums own rest own_is (subst (λ z. AreAdded ops own z rest) whole_is added))
+        let rest_is : rest ≡ every_sum ops large 1 (2 * length large) = large_sums own rest own_is (subst (λ z. AreAdded ops z sums rest) own_same (subst (λ z. AreAdded ops own' z rest) sums_same added)) in
+        let found : (length ds ≡ length large) × (reverse (ops.one ∷ ds) ≡ with_roots ops large) = large_recurrence field rest ds rest_is (subst (IsShortest ops ds) rest_same shortest) in
+        record { own_is = own_is; rest_is = rest_is; size = found.0; polynomial = found.1 }

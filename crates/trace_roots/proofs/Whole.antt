@@ -95,9 +95,9 @@ module _ {A : Type 0} (ops : Ops A) (ring : IsRing ops) (bits_of : A → ℕ) (w
       (shortest_of_set ops ring width field cs es (length s) set.distinct set.nonzero few (subst (IsShortest ops cs) is shortest)).0
 
   -- the whole set as the part that is to be taken apart
-  pub whole_part : (es s cs f front : List A) → IsSet ops es → 2 * length es ≤ length s → s ≡ every_sum ops es 1 (length s) → IsShortest ops cs s
-      → f ≡ reverse (ops.one ∷ cs) → front ≡ take (2 * length cs) s → IsPart ops bits_of width 0 es f front []
-  whole_part es s cs f front set few is shortest f_is front_is = record {
+  pub whole_part : (es s cs f front : List A) (traces : List (List A)) → IsSet ops es → 2 * length es ≤ length s → s ≡ every_sum ops es 1 (length s) → IsShortest ops cs s
+      → f ≡ reverse (ops.one ∷ cs) → front ≡ take (2 * length cs) s → traces ≡ [] → IsPart ops bits_of width 0 es f front traces
+  whole_part es s cs f front traces set few is shortest f_is front_is none = record {
     set = set;
     locator_is = f_is ∙ (shortest_of_set ops ring width field cs es (length s) set.distinct set.nonzero few (subst (IsShortest ops cs) is shortest)).1;
     sums_are =
@@ -105,7 +105,7 @@ module _ {A : Type 0} (ops : Ops A) (ring : IsRing ops) (bits_of : A → ℕ) (w
         ∙ ap (λ n. take (2 * n) s) (locator_of_set es s cs set few is shortest)
         ∙ ap (take (2 * length es)) is
         ∙ take-every_sum ops es 1 (2 * length es) (length s) few;
-    traces_are = λ i lt. absurd (omega arith);
+    traces_are = λ i lt. absurd (omega (arith, ap length none));
   }
 
   -- what was found, sorted, is the set
