@@ -42,15 +42,15 @@ def write_elements(path, count, seed):
             file.write(f"{element:08x}\n")
 
 
-def run(command, path):
-    """The processor time in seconds, and what was written."""
+def run(command, path, wanted=0):
+    """The processor time in seconds, and what was written. It must end with the status that is wanted."""
     with open(path, "rb") as elements:
         process = subprocess.Popen(command, stdin=elements, stdout=subprocess.PIPE)
     text = process.stdout.read()
     _, status, usage = os.wait4(process.pid, 0)
     process.returncode = 0
-    if status != 0:
-        sys.exit(f"{' '.join(command)} ended with {status}")
+    if os.waitstatus_to_exitcode(status) != wanted:
+        sys.exit(f"{' '.join(command)} ended with {os.waitstatus_to_exitcode(status)}")
     return usage.ru_utime + usage.ru_stime, text
 
 
@@ -58,13 +58,19 @@ def peak_megabytes(command, path):
     """The most memory that a run holds. A process of its own measures it, since Python's would count."""
     with open(path, "rb") as elements:
         timed = subprocess.run(["time", "-f", "%M", *command], stdin=elements,
-                               stdout=subprocess.DEVNULL, stderr=subprocess.PIPE, check=True)
+                               stdout=subprocess.DEVNULL, stderr=subprocess.PIPE)
     return int(timed.stderr.split()[-1]) / 1024
 
 
-def yard(folder, build):
-    program = os.path.join(build, "yard")
-    subprocess.run(["make", "-s", "-C", folder, f"BUILD={build}", program], check=True)
+def build():
+    """Builds the program, which proves it, where it isn't current."""
+    subprocess.run([os.path.join(TOP, "erlay"), "make", "1"], stdin=subprocess.DEVNULL,
+                   stdout=subprocess.DEVNULL, check=True)
+
+
+def yard(folder, built):
+    program = os.path.join(built, "yard")
+    subprocess.run(["make", "-s", "-C", folder, f"BUILD={built}", program], check=True)
     return program
 
 
@@ -90,8 +96,7 @@ def main():
     words.add_argument("--yardstick", metavar="FOLDER")
     words.add_argument("--quick", action="store_true", help="leave out the largest sizes")
     words = words.parse_args()
-    subprocess.run([os.path.join(TOP, "erlay"), "make", "1"], stdin=subprocess.DEVNULL,
-                   stdout=subprocess.DEVNULL, check=True)
+    build()
     with tempfile.TemporaryDirectory() as folder:
         others = {}
         if words.yardstick:
@@ -112,4 +117,5 @@ def main():
             row(f"make {count} {capacity}", ["make", str(capacity)], path, count * capacity, others, words.rounds)
 
 
-main()
+if __name__ == "__main__":
+    main()
