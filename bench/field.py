@@ -7,10 +7,13 @@ The calls are timed by a program of its own, which is laid out beside copies of 
 temporary folder, proved and built there (some minutes the first time), and run. It prints a line a
 call: the best of several rounds, in nanoseconds a product or an item, and in milliseconds a call.
 """
-import argparse, os, shutil, subprocess, sys, tempfile
+import sys
 
-TOP = os.path.dirname(os.path.dirname(os.path.abspath(__file__)))
+sys.dont_write_bytecode = True
+from timed import is_kept, lines_of
+
 CRATES = ["base_types", "sketch_rules", "sketch_laws", "field_core", "poly_rules", "poly_laws", "poly_ops"]
+USES = ["base_types", "field_core", "poly_ops", "poly_rules", "sketch_rules"]
 
 PROGRAM = r'''//! Times calls of the libraries.
 #![tactic(auto)]
@@ -113,40 +116,15 @@ fn main(rt: HostRuntime) -> io::Result<()> {
 
 
 def main():
-    words = argparse.ArgumentParser(description=__doc__, formatter_class=argparse.RawDescriptionHelpFormatter)
-    words.add_argument("--keep", action="store_true", help="leave the folder")
-    words = words.parse_args()
-    folder = tempfile.mkdtemp(prefix="erlay-bench-")
-    try:
-        for crate in CRATES:
-            shutil.copytree(os.path.join(TOP, "crates", crate), os.path.join(folder, "crates", crate),
-                            ignore=shutil.ignore_patterns("out"))
-        with open(os.path.join(TOP, "crates.txt")) as file:
-            lines = [line for line in file if line.split(":")[0] in CRATES]
-        with open(os.path.join(folder, "crates.txt"), "w") as file:
-            file.writelines(lines + ["timed: base_types field_core poly_ops poly_rules sketch_rules\n"])
-        os.makedirs(os.path.join(folder, "crates/timed/src"))
-        with open(os.path.join(folder, "crates/timed/src/main.rt"), "w") as file:
-            file.write(PROGRAM)
-        program = os.path.join(folder, "crates/timed")
-        built = subprocess.run(["rt", "run"], cwd=program, stdin=subprocess.DEVNULL,
-                               stdout=subprocess.PIPE, stderr=subprocess.PIPE, text=True)
-        if built.returncode != 0:
-            sys.exit(built.stdout + built.stderr)
-        best = {}
-        for line in built.stdout.splitlines():
-            name, time = line.split()[:2]
-            best[name] = min(int(time), best.get(name, int(time)))
-        print(f"product          {best['product'] / 1000 / 1024:8.2f} ns, in a chain")
-        print(f"axpy             {best['axpy'] / 1000 / 1024:8.2f} ns an item, at length 1,024")
-        print(f"dot              {best['dot'] / 1000 / 1024:8.2f} ns an item, at length 1,024")
-        print(f"square_mod       {best['square_mod'] / 1e6:8.2f} ms, at degree 1,024")
-        print(f"frobenius_table  {best['frobenius_table'] / 1e6:8.2f} ms, at degree 1,024")
-    finally:
-        if words.keep:
-            print(folder)
-        else:
-            shutil.rmtree(folder)
+    best = {}
+    for line in lines_of(PROGRAM, CRATES, USES, is_kept(__doc__)):
+        name, time = line.split()[:2]
+        best[name] = min(int(time), best.get(name, int(time)))
+    print(f"product          {best['product'] / 1000 / 1024:8.2f} ns, in a chain")
+    print(f"axpy             {best['axpy'] / 1000 / 1024:8.2f} ns an item, at length 1,024")
+    print(f"dot              {best['dot'] / 1000 / 1024:8.2f} ns an item, at length 1,024")
+    print(f"square_mod       {best['square_mod'] / 1e6:8.2f} ms, at degree 1,024")
+    print(f"frobenius_table  {best['frobenius_table'] / 1e6:8.2f} ms, at degree 1,024")
 
 
 main()

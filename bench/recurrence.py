@@ -8,11 +8,14 @@ temporary folder, proved and built there (some minutes the first time), and run.
 length: the best of several rounds in milliseconds, the length that was found, and the nanoseconds
 for each of the products that a search takes at most. Random sums take nearly as many.
 """
-import argparse, os, shutil, subprocess, sys, tempfile
+import sys
 
-TOP = os.path.dirname(os.path.dirname(os.path.abspath(__file__)))
+sys.dont_write_bytecode = True
+from timed import is_kept, lines_of
+
 CRATES = ["base_types", "sketch_rules", "sketch_laws", "field_core", "poly_rules", "poly_laws", "recurrence_laws",
           "poly_ops", "bm_solver"]
+USES = ["base_types", "field_core", "bm_solver"]
 ROUNDS = {64: 200, 1024: 7, 4096: 5}
 
 PROGRAM = r'''//! Times the search for the shortest recurrence.
@@ -59,37 +62,14 @@ fn main(rt: HostRuntime) -> io::Result<()> {
 
 
 def main():
-    words = argparse.ArgumentParser(description=__doc__, formatter_class=argparse.RawDescriptionHelpFormatter)
-    words.add_argument("--keep", action="store_true", help="leave the folder")
-    words = words.parse_args()
-    folder = tempfile.mkdtemp(prefix="erlay-bench-")
-    try:
-        for crate in CRATES:
-            shutil.copytree(os.path.join(TOP, "crates", crate), os.path.join(folder, "crates", crate),
-                            ignore=shutil.ignore_patterns("out"))
-        with open(os.path.join(TOP, "crates.txt")) as file:
-            lines = [line for line in file if line.split(":")[0] in CRATES]
-        with open(os.path.join(folder, "crates.txt"), "w") as file:
-            file.writelines(lines + ["timed: base_types field_core poly_ops poly_rules sketch_rules bm_solver\n"])
-        os.makedirs(os.path.join(folder, "crates/timed/src"))
-        with open(os.path.join(folder, "crates/timed/src/main.rt"), "w") as file:
-            file.write(PROGRAM.replace("[SIZES]", "[" + ", ".join(f"({n}, {r})" for n, r in ROUNDS.items()) + "]"))
-        built = subprocess.run(["rt", "run"], cwd=os.path.join(folder, "crates/timed"), stdin=subprocess.DEVNULL,
-                               stdout=subprocess.PIPE, stderr=subprocess.PIPE, text=True)
-        if built.returncode != 0:
-            sys.exit(built.stdout + built.stderr)
-        best, length = {}, {}
-        for line in built.stdout.splitlines():
-            n, time, found = map(int, line.split())
-            best[n], length[n] = min(time, best.get(n, time)), found
-        for n in ROUNDS:
-            products = n * (n + 1) // 2 + 2 * n
-            print(f"{n:5} sums  {best[n] / 1e6:9.3f} ms  length {length[n]:5}  {best[n] / products:6.2f} ns a product")
-    finally:
-        if words.keep:
-            print(folder)
-        else:
-            shutil.rmtree(folder)
+    sizes = ", ".join(f"({n}, {rounds})" for n, rounds in ROUNDS.items())
+    best, length = {}, {}
+    for line in lines_of(PROGRAM.replace("[SIZES]", f"[{sizes}]"), CRATES, USES, is_kept(__doc__)):
+        n, time, found = map(int, line.split())
+        best[n], length[n] = min(time, best.get(n, time)), found
+    for n in ROUNDS:
+        products = n * (n + 1) // 2 + 2 * n
+        print(f"{n:5} sums  {best[n] / 1e6:9.3f} ms  length {length[n]:5}  {best[n] / products:6.2f} ns a product")
 
 
 main()
