@@ -8,7 +8,7 @@ use Rattle.std.proofs.lemmas.List.Sorted.{IsPermutation-trans, IsPermutation-app
 use Rattle.sketch_rules.specs.Ops.{Ops, IsRing, power_sum, every_sum}
 use Rattle.sketch_rules.specs.Fields.{IsField, trace_of}
 use Rattle.sketch_rules.specs.Numbered.{IsNumbered}
-use Rattle.poly_rules.specs.Polynomials.{coefficient, Same, IsTrimmed, value_at}
+use Rattle.poly_rules.specs.Polynomials.{coefficient, degree, Same, IsTrimmed, value_at}
 use Rattle.poly_rules.specs.Recurrences.{IsShortest}
 use Rattle.poly_rules.specs.Roots.{with_roots}
 use Rattle.splitting_laws.specs.Alike.{IsAlike}
@@ -20,6 +20,7 @@ use Rattle.splitting_laws.proofs.Returns.{constant_of_values}
 use Rattle.sketch_laws.proofs.EverySums.{length-every_sum, get_or-every_sum}
 use Rattle.trace_roots.specs.Added.{AreAdded}
 use Rattle.trace_roots.specs.Parts.{IsSet, AreTraces, IsPart, AreSides, IsSmaller, IsSplit}
+use Rattle.trace_roots.proofs.Parting.{degree_of_set}
 
 -- a test that nothing passes fails everywhere
 none_pass : {A : Type 0} (p : A → Bool) (xs : List A) → length (filter p xs) ≡ 0 → All (λ x. p x ≡ false) xs
@@ -39,7 +40,13 @@ module _ {A : Type 0} (ops : Ops A) where
 
 module _ {A : Type 0} (ops : Ops A) (ring : IsRing ops) (bits_of : A → ℕ) (width : ℕ) (field : IsField ops width) (numbered : IsNumbered ops bits_of width) where
   module _ (first : ℕ) (b : A) (es f sums t : List A) (traces : List (List A)) (part : IsPart ops bits_of width first es f sums traces)
-      (short : length t ≤ length es) (traced : All (λ e. value_at ops t e ≡ trace_of ops width (ops.times b e)) es) where
+      (low : length t ≤ degree f) (traced : All (λ e. value_at ops t e ≡ trace_of ops width (ops.times b e)) es) where
+    members : degree f ≡ length es
+    members = degree_of_set ops ring f es part.locator_is
+
+    short : length t ≤ length es
+    short = omega (arith, low, members)
+
     abbrev test : A → Bool
     test e = nat_eq (bits_of (value_at ops t e)) 1
 
@@ -61,7 +68,7 @@ module _ {A : Type 0} (ops : Ops A) (ring : IsRing ops) (bits_of : A → ℕ) (w
     -- the sums of those where it is one, and of the others
     pub inside_is : (inside : List A) → IsWindows ops t sums (length es) inside → inside ≡ every_sum ops passing 1 (length es)
     inside_is inside windows =
-        sums_of_part ops ring t test es (length es) (2 * length es) inside told (omega arith) (subst (λ z. IsWindows ops t z (length es) inside) part.sums_are windows)
+        sums_of_part ops ring t test es (length es) (2 * length es) inside told (omega (arith, short)) (subst (λ z. IsWindows ops t z (length es) inside) part.sums_are windows)
 
     pub outside_is : (inside outside : List A) → inside ≡ every_sum ops passing 1 (length es) → length inside ≡ length es → AreAdded ops inside sums outside → outside ≡ every_sum ops failing 1 (length es)
     outside_is inside outside is size added =
@@ -115,7 +122,10 @@ module _ {A : Type 0} (ops : Ops A) (ring : IsRing ops) (bits_of : A → ℕ) (w
         ∙ power_sum-parts ops ring test (suc k) es
 
     -- the one with the shorter recurrence is the smaller one
-    module _ (inside outside inner outer : List A) (sides : AreSides ops t sums (length es) inside outside inner outer) where
+    module _ (inside outside inner outer : List A) (solved : AreSides ops t sums (degree f) inside outside inner outer) where
+      sides : AreSides ops t sums (length es) inside outside inner outer
+      sides = subst (λ n. AreSides ops t sums n inside outside inner outer) members solved
+
       passing_sums : inside ≡ every_sum ops passing 1 (length es)
       passing_sums = inside_is inside sides.windows
 
@@ -128,20 +138,20 @@ module _ {A : Type 0} (ops : Ops A) (ring : IsRing ops) (bits_of : A → ℕ) (w
       outer_shortest : IsShortest ops outer (every_sum ops failing 1 (length es))
       outer_shortest = subst (IsShortest ops outer) failing_sums sides.outer_is
 
-      pub inner_smaller : 2 ≤ length t → IsTrimmed ops t → 1 ≤ length es → length inner ≤ length outer
-          → IsSmaller ops bits_of width first passing failing sums traces inside inner
-      inner_smaller long trimmed some shorter = record {
+      pub inner_smaller : (front : List A) → front ≡ inside → 2 ≤ length t → IsTrimmed ops t → 1 ≤ degree f → length inner ≤ length outer
+          → IsSmaller ops bits_of width first passing failing sums traces front inner
+      inner_smaller front is long trimmed some shorter = record {
         halves = record {
           small_set = part_set test;
           large_set = part_set (λ e. not (test e));
-          some = some_pass long trimmed some;
+          some = some_pass long trimmed (omega (arith, some, members));
           fewer = omega (arith, shorter, only.0, shortest_within ops ring outer failing (length es) outer_shortest);
           size = size;
           together = together;
           small_traces = part_traces test;
           large_traces = part_traces (λ e. not (test e));
         };
-        front_is = passing_sums ∙ ap (every_sum ops passing 1) (sym (parts-length test es));
+        front_is = is ∙ passing_sums ∙ ap (every_sum ops passing 1) (sym (parts-length test es));
         length_is = only.0;
         polynomial = only.1;
       }
@@ -151,20 +161,20 @@ module _ {A : Type 0} (ops : Ops A) (ring : IsRing ops) (bits_of : A → ℕ) (w
               smaller_part ops ring width field inner outer passing failing (length es) (part_set test).distinct (part_set test).nonzero (parts-length test es)
               inner_shortest outer_shortest shorter
 
-      pub outer_smaller : 2 ≤ length t → IsTrimmed ops t → 1 ≤ length es → length outer ≤ length inner
-          → IsSmaller ops bits_of width first failing passing sums traces outside outer
-      outer_smaller long trimmed some shorter = record {
+      pub outer_smaller : (front : List A) → front ≡ outside → 2 ≤ length t → IsTrimmed ops t → 1 ≤ degree f → length outer ≤ length inner
+          → IsSmaller ops bits_of width first failing passing sums traces front outer
+      outer_smaller front is long trimmed some shorter = record {
         halves = record {
           small_set = part_set (λ e. not (test e));
           large_set = part_set test;
-          some = some_fail long trimmed some;
+          some = some_fail long trimmed (omega (arith, some, members));
           fewer = omega (arith, shorter, only.0, shortest_within ops ring inner passing (length es) inner_shortest);
           size = size ∙ omega arith;
           together = λ k lt. together k lt ∙ ring.plus_comm (power_sum ops (suc k) passing) (power_sum ops (suc k) failing);
           small_traces = part_traces (λ e. not (test e));
           large_traces = part_traces test;
         };
-        front_is = failing_sums ∙ ap (every_sum ops failing 1) (omega (arith, parts-length test es));
+        front_is = is ∙ failing_sums ∙ ap (every_sum ops failing 1) (omega (arith, parts-length test es));
         length_is = only.0;
         polynomial = only.1;
       }

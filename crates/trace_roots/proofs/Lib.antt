@@ -6,5 +6,6 @@ mod Found
 mod Halving
 mod Parting
 mod Pushed
+mod Stepping
 mod Whole
 mod WindowSums

@@ -1,11 +1,11 @@
-use Rattle.std.proofs.Common.{◌≡◌, ◌+◌, ◌^◌, ◌<◌, List, [], ◌∷◌, ◌++◌, length, true, false, sym, ap, subst, ◌∙◌, arith}
+use Rattle.std.proofs.Common.{◌≡◌, ◌+◌, List, [], ◌∷◌, ◌++◌, length, true, false, sym, ap, subst, ◌∙◌, arith}
 use Rattle.std.specs.Prelude.{IsSome}
 use Rattle.std.specs.List.Sorted.{IsPermutation}
 use Rattle.std.proofs.lemmas.Result.{on_ok_weaker}
 use Rattle.std.proofs.lemmas.List.Sorted.{IsPermutation-refl}
 use Rattle.splitting_laws.specs.Alike.{IsAlike}
-use Rattle.trace_roots.specs.Parts.{IsTrace, IsPart, IsSplit}
-use Rattle.trace_roots.proofs.Found.{at_some, lone_member, end_of_basis, basis_at, not_apart, found_of_both, never}
+use Rattle.trace_roots.proofs.Found.{lone_member, end_of_basis, found_of_both, never}
+use Rattle.trace_roots.proofs.Stepping.{IsPartOf, IsSplitOf, next_unparted, next_by_basis, next_split}
 use Rattle.trace_roots.proofs.members.+find_members.Goals as goal
 
 pub returns-then-coeffs-eq2-clause-members : goal.returns-then-coeffs-eq2-clause-members
@@ -21,7 +21,7 @@ returns-then-place-BITS g n c = record {
   members = λ es part alike. absurd (one_left es part alike);
 }
   where
-    one_left : (es : List _) → IsPart g.F.Field.ops g.F.Field.bits_of g.F.Field.BITS c.args.place es c.args.part.locator c.args.part.sums.items c.args.part.traces.items → IsAlike g.F.Field.ops g.F.Field.bits_of g.F.Field.BITS c.args.place es → ⊥
+    one_left : (es : List _) → IsPartOf g.F.Field.ops g.met.F.Field.ring g.F.Field.bits_of g.F.Field.BITS g.met.F.Field.numbered c.args.place es c.args.part → IsAlike g.F.Field.ops g.F.Field.bits_of g.F.Field.BITS c.args.place es → ⊥
     one_left es part alike =
         c.if-coeffs-eq2.false
         (ap length c.coeffs.ensures.value
@@ -30,23 +30,15 @@ returns-then-place-BITS g n c = record {
 
 pub returns-then-coeffs-lt2 : goal.returns-then-coeffs-lt2
 returns-then-coeffs-lt2 g n c = record {
-  all = λ es part alike. c.find_members.ensures.all es (rest es part) (also es part alike);
-  members = λ es part alike. c.find_members.ensures.members es (rest es part) (also es part alike);
+  all = λ es part alike. let next = unparted es part alike in c.find_members.ensures.all es next.0 next.1;
+  members = λ es part alike. let next = unparted es part alike in c.find_members.ensures.members es next.0 next.1;
 }
   where
-    below : c.args.place < g.F.Field.BITS
-    below = omega (arith, c.if-place-BITS.false, c.BITS.ensures)
-
-    trace : (es : List _) → IsPart g.F.Field.ops g.F.Field.bits_of g.F.Field.BITS c.args.place es c.args.part.locator c.args.part.sums.items c.args.part.traces.items → IsTrace g.F.Field.ops g.F.Field.bits_of g.F.Field.BITS c.args.place es c.in-Some.trace
-    trace es part = at_some (λ p. IsTrace g.F.Field.ops g.F.Field.bits_of g.F.Field.BITS c.args.place es p.0) c.in-Some.is (c.in_ok-trace.ensures.trace es part)
-
-    rest : (es : List _) → IsPart g.F.Field.ops g.F.Field.bits_of g.F.Field.BITS c.args.place es c.args.part.locator c.args.part.sums.items c.args.part.traces.items → IsPart g.F.Field.ops g.F.Field.bits_of g.F.Field.BITS (c.args.place + 1) es c.in-Some.part.locator c.in-Some.part.sums.items c.in-Some.part.traces.items
-    rest es part = at_some (λ p. IsPart g.F.Field.ops g.F.Field.bits_of g.F.Field.BITS (c.args.place + 1) es p.1.locator p.1.sums.items p.1.traces.items) c.in-Some.is (c.in_ok-trace.ensures.part es part)
-
-    also : (es : List _) → IsPart g.F.Field.ops g.F.Field.bits_of g.F.Field.BITS c.args.place es c.args.part.locator c.args.part.sums.items c.args.part.traces.items → IsAlike g.F.Field.ops g.F.Field.bits_of g.F.Field.BITS c.args.place es → IsAlike g.F.Field.ops g.F.Field.bits_of g.F.Field.BITS (c.args.place + 1) es
-    also es part alike =
-        not_apart g.F.Field.ops g.met.F.Field.ring g.F.Field.bits_of g.F.Field.BITS g.met.F.Field.numbered c.args.place es c.in-Some.trace below (omega (arith, c.if-coeffs-lt2.true, ap length c.coeffs-2.ensures.value))
-        (trace es part) alike
+    unparted : (es : List _) → IsPartOf g.F.Field.ops g.met.F.Field.ring g.F.Field.bits_of g.F.Field.BITS g.met.F.Field.numbered c.args.place es c.args.part → IsAlike g.F.Field.ops g.F.Field.bits_of g.F.Field.BITS c.args.place es → IsPartOf g.F.Field.ops g.met.F.Field.ring g.F.Field.bits_of g.F.Field.BITS g.met.F.Field.numbered (c.args.place + 1) es c.in-Some.part × IsAlike g.F.Field.ops g.F.Field.bits_of g.F.Field.BITS (c.args.place + 1) es
+    unparted es part alike =
+        next_unparted g.F.Field.ops g.met.F.Field.ring g.F.Field.bits_of g.F.Field.BITS g.met.F.Field.numbered c.args.place (omega (arith, c.if-place-BITS.false, c.BITS.ensures)) es c.in-Some.trace c.in-Some.part c.in-Some.is
+        (c.in_ok-trace.ensures.trace es part) (c.in_ok-trace.ensures.part es part)
+        (omega (arith, c.if-coeffs-lt2.true, ap length c.coeffs-2.ensures.value)) alike
 
 pub returns-in_default-2 : goal.returns-in_default-2
 returns-in_default-2 g n c = record {
@@ -54,20 +46,12 @@ returns-in_default-2 g n c = record {
   members = λ es part alike. never (none es part);
 }
   where
-    below : c.args.place < g.F.Field.BITS
-    below = omega (arith, c.if-place-BITS.false, c.BITS.ensures)
-
-    trace : (es : List _) → IsPart g.F.Field.ops g.F.Field.bits_of g.F.Field.BITS c.args.place es c.args.part.locator c.args.part.sums.items c.args.part.traces.items → IsTrace g.F.Field.ops g.F.Field.bits_of g.F.Field.BITS c.args.place es c.in-Some.trace
-    trace es part = at_some (λ p. IsTrace g.F.Field.ops g.F.Field.bits_of g.F.Field.BITS c.args.place es p.0) c.in-Some.is (c.in_ok-trace.ensures.trace es part)
-
-    rest : (es : List _) → IsPart g.F.Field.ops g.F.Field.bits_of g.F.Field.BITS c.args.place es c.args.part.locator c.args.part.sums.items c.args.part.traces.items → IsPart g.F.Field.ops g.F.Field.bits_of g.F.Field.BITS (c.args.place + 1) es c.in-Some.part.locator c.in-Some.part.sums.items c.in-Some.part.traces.items
-    rest es part = at_some (λ p. IsPart g.F.Field.ops g.F.Field.bits_of g.F.Field.BITS (c.args.place + 1) es p.1.locator p.1.sums.items p.1.traces.items) c.in-Some.is (c.in_ok-trace.ensures.part es part)
-
-    b : (b : _) × (g.F.Field.bits_of b ≡ 2 ^ c.args.place)
-    b = basis_at g.F.Field.ops g.met.F.Field.ring g.F.Field.bits_of g.F.Field.BITS g.met.F.Field.numbered c.args.place below
-
-    none : (es : List _) → IsPart g.F.Field.ops g.F.Field.bits_of g.F.Field.BITS c.args.place es c.args.part.locator c.args.part.sums.items c.args.part.traces.items → false ≡ true
-    none es part = subst IsSome c.in_default-2.is (c.in_ok-first.ensures.found c.args.place b.0 es b.1 (rest es part) (trace es part b.0 b.1))
+    none : (es : List _) → IsPartOf g.F.Field.ops g.met.F.Field.ring g.F.Field.bits_of g.F.Field.BITS g.met.F.Field.numbered c.args.place es c.args.part → false ≡ true
+    none es part =
+        subst IsSome c.in_default-2.is
+        (next_by_basis g.F.Field.ops g.met.F.Field.ring g.F.Field.bits_of g.F.Field.BITS g.met.F.Field.numbered c.args.place (omega (arith, c.if-place-BITS.false, c.BITS.ensures)) es c.in-Some.trace c.in-Some.part c.in-Some.is
+        (c.in_ok-trace.ensures.trace es part) (c.in_ok-trace.ensures.part es part)
+        (λ b bits rest traced. c.in_ok-first.ensures.found c.args.place b es bits rest traced))
 
 pub returns-then-not-branch : goal.returns-then-not-branch
 returns-then-not-branch g n c = record {
@@ -75,33 +59,20 @@ returns-then-not-branch g n c = record {
   members = λ es part alike. never (none es part alike);
 }
   where
-    below : c.args.place < g.F.Field.BITS
-    below = omega (arith, c.if-place-BITS.false, c.BITS.ensures)
+    halved : (es : List _) → IsPartOf g.F.Field.ops g.met.F.Field.ring g.F.Field.bits_of g.F.Field.BITS g.met.F.Field.numbered c.args.place es c.args.part → IsAlike g.F.Field.ops g.F.Field.bits_of g.F.Field.BITS c.args.place es → IsSplitOf g.F.Field.ops g.met.F.Field.ring g.F.Field.bits_of g.F.Field.BITS g.met.F.Field.numbered (c.args.place + 1) es c.in-Some-2.first c.in-Some-2.second
+    halved es part alike =
+        next_split g.F.Field.ops g.met.F.Field.ring g.F.Field.bits_of g.F.Field.BITS g.met.F.Field.numbered c.args.place (omega (arith, c.if-place-BITS.false, c.BITS.ensures)) es c.in-Some.trace c.in-Some.part c.in-Some.is
+        (c.in_ok-trace.ensures.trace es part) (c.in_ok-trace.ensures.part es part)
+        c.in-Some-2.first c.in-Some-2.second c.in-Some-2.is (λ b bits rest traced. c.in_ok-first.ensures.parts c.args.place b es bits rest traced alike)
 
-    trace : (es : List _) → IsPart g.F.Field.ops g.F.Field.bits_of g.F.Field.BITS c.args.place es c.args.part.locator c.args.part.sums.items c.args.part.traces.items → IsTrace g.F.Field.ops g.F.Field.bits_of g.F.Field.BITS c.args.place es c.in-Some.trace
-    trace es part = at_some (λ p. IsTrace g.F.Field.ops g.F.Field.bits_of g.F.Field.BITS c.args.place es p.0) c.in-Some.is (c.in_ok-trace.ensures.trace es part)
-
-    rest : (es : List _) → IsPart g.F.Field.ops g.F.Field.bits_of g.F.Field.BITS c.args.place es c.args.part.locator c.args.part.sums.items c.args.part.traces.items → IsPart g.F.Field.ops g.F.Field.bits_of g.F.Field.BITS (c.args.place + 1) es c.in-Some.part.locator c.in-Some.part.sums.items c.in-Some.part.traces.items
-    rest es part = at_some (λ p. IsPart g.F.Field.ops g.F.Field.bits_of g.F.Field.BITS (c.args.place + 1) es p.1.locator p.1.sums.items p.1.traces.items) c.in-Some.is (c.in_ok-trace.ensures.part es part)
-
-    b : (b : _) × (g.F.Field.bits_of b ≡ 2 ^ c.args.place)
-    b = basis_at g.F.Field.ops g.met.F.Field.ring g.F.Field.bits_of g.F.Field.BITS g.met.F.Field.numbered c.args.place below
-
-    split : (es : List _) → IsPart g.F.Field.ops g.F.Field.bits_of g.F.Field.BITS c.args.place es c.args.part.locator c.args.part.sums.items c.args.part.traces.items → IsAlike g.F.Field.ops g.F.Field.bits_of g.F.Field.BITS c.args.place es
-        → IsSplit g.F.Field.ops g.F.Field.bits_of g.F.Field.BITS (c.args.place + 1) es c.in-Some-2.first.locator c.in-Some-2.first.sums.items c.in-Some-2.first.traces.items
-        c.in-Some-2.second.locator c.in-Some-2.second.sums.items c.in-Some-2.second.traces.items
-    split es part alike =
-        at_some (λ p. IsSplit g.F.Field.ops g.F.Field.bits_of g.F.Field.BITS (c.args.place + 1) es p.0.locator p.0.sums.items p.0.traces.items p.1.locator p.1.sums.items p.1.traces.items) c.in-Some-2.is
-        (c.in_ok-first.ensures.parts c.args.place b.0 es b.1 (rest es part) (trace es part b.0 b.1) alike)
-
-    none : (es : List _) → IsPart g.F.Field.ops g.F.Field.bits_of g.F.Field.BITS c.args.place es c.args.part.locator c.args.part.sums.items c.args.part.traces.items → IsAlike g.F.Field.ops g.F.Field.bits_of g.F.Field.BITS c.args.place es → false ≡ true
-    none es part alike = let parts = split es part alike in sym c.if-not-branch.true ∙ c.in_ok-find_members.ensures.all parts.left parts.left_part parts.left_alike
+    none : (es : List _) → IsPartOf g.F.Field.ops g.met.F.Field.ring g.F.Field.bits_of g.F.Field.BITS g.met.F.Field.numbered c.args.place es c.args.part → IsAlike g.F.Field.ops g.F.Field.bits_of g.F.Field.BITS c.args.place es → false ≡ true
+    none es part alike = let parts = halved es part alike in sym c.if-not-branch.true ∙ c.in_ok-find_members.ensures.all parts.left parts.left_part parts.left_alike
 
 pub returns : goal.returns
 returns g n c = record {
-  all = λ es part alike. let parts = split es part alike in c.find_members-3.ensures.all parts.right parts.right_part parts.right_alike;
+  all = λ es part alike. let parts = halved es part alike in c.find_members-3.ensures.all parts.right parts.right_part parts.right_alike;
   members = λ es part alike.
-      let parts = split es part alike in
+      let parts = halved es part alike in
       let first : (ms : List _) × IsPermutation parts.left ms × (c.find_members-2.new.found.items ≡ c.args.found.now.items ++ ms) =
       c.in_ok-find_members.ensures.members parts.left parts.left_part parts.left_alike in
       on_ok_weaker c.find_members-3.result
@@ -112,21 +83,8 @@ returns g n c = record {
       (c.find_members-3.ensures.members parts.right parts.right_part parts.right_alike);
 }
   where
-    below : c.args.place < g.F.Field.BITS
-    below = omega (arith, c.if-place-BITS.false, c.BITS.ensures)
-
-    trace : (es : List _) → IsPart g.F.Field.ops g.F.Field.bits_of g.F.Field.BITS c.args.place es c.args.part.locator c.args.part.sums.items c.args.part.traces.items → IsTrace g.F.Field.ops g.F.Field.bits_of g.F.Field.BITS c.args.place es c.in-Some.trace
-    trace es part = at_some (λ p. IsTrace g.F.Field.ops g.F.Field.bits_of g.F.Field.BITS c.args.place es p.0) c.in-Some.is (c.in_ok-trace.ensures.trace es part)
-
-    rest : (es : List _) → IsPart g.F.Field.ops g.F.Field.bits_of g.F.Field.BITS c.args.place es c.args.part.locator c.args.part.sums.items c.args.part.traces.items → IsPart g.F.Field.ops g.F.Field.bits_of g.F.Field.BITS (c.args.place + 1) es c.in-Some.part.locator c.in-Some.part.sums.items c.in-Some.part.traces.items
-    rest es part = at_some (λ p. IsPart g.F.Field.ops g.F.Field.bits_of g.F.Field.BITS (c.args.place + 1) es p.1.locator p.1.sums.items p.1.traces.items) c.in-Some.is (c.in_ok-trace.ensures.part es part)
-
-    b : (b : _) × (g.F.Field.bits_of b ≡ 2 ^ c.args.place)
-    b = basis_at g.F.Field.ops g.met.F.Field.ring g.F.Field.bits_of g.F.Field.BITS g.met.F.Field.numbered c.args.place below
-
-    split : (es : List _) → IsPart g.F.Field.ops g.F.Field.bits_of g.F.Field.BITS c.args.place es c.args.part.locator c.args.part.sums.items c.args.part.traces.items → IsAlike g.F.Field.ops g.F.Field.bits_of g.F.Field.BITS c.args.place es
-        → IsSplit g.F.Field.ops g.F.Field.bits_of g.F.Field.BITS (c.args.place + 1) es c.in-Some-2.first.locator c.in-Some-2.first.sums.items c.in-Some-2.first.traces.items
-        c.in-Some-2.second.locator c.in-Some-2.second.sums.items c.in-Some-2.second.traces.items
-    split es part alike =
-        at_some (λ p. IsSplit g.F.Field.ops g.F.Field.bits_of g.F.Field.BITS (c.args.place + 1) es p.0.locator p.0.sums.items p.0.traces.items p.1.locator p.1.sums.items p.1.traces.items) c.in-Some-2.is
-        (c.in_ok-first.ensures.parts c.args.place b.0 es b.1 (rest es part) (trace es part b.0 b.1) alike)
+    halved : (es : List _) → IsPartOf g.F.Field.ops g.met.F.Field.ring g.F.Field.bits_of g.F.Field.BITS g.met.F.Field.numbered c.args.place es c.args.part → IsAlike g.F.Field.ops g.F.Field.bits_of g.F.Field.BITS c.args.place es → IsSplitOf g.F.Field.ops g.met.F.Field.ring g.F.Field.bits_of g.F.Field.BITS g.met.F.Field.numbered (c.args.place + 1) es c.in-Some-2.first c.in-Some-2.second
+    halved es part alike =
+        next_split g.F.Field.ops g.met.F.Field.ring g.F.Field.bits_of g.F.Field.BITS g.met.F.Field.numbered c.args.place (omega (arith, c.if-place-BITS.false, c.BITS.ensures)) es c.in-Some.trace c.in-Some.part c.in-Some.is
+        (c.in_ok-trace.ensures.trace es part) (c.in_ok-trace.ensures.part es part)
+        c.in-Some-2.first c.in-Some-2.second c.in-Some-2.is (λ b bits rest traced. c.in_ok-first.ensures.parts c.args.place b es bits rest traced alike)
