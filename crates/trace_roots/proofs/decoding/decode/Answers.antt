@@ -16,36 +16,28 @@ returns-then-length-capacity g c =
       difference = λ xs ys in_xs in_ys apart_xs apart_ys few sums. differs g.F.Field.ops g.met.F.Field.ring g.F.Field.bits_of g.F.Field.BITS g.met.F.Field.field g.met.F.Field.numbered None (map g.F.Field.bits_of c.args.sketch.now) xs ys (length c.args.sketch.now) (sym none) in_xs in_ys apart_xs apart_ys few sums;
     }
 
-pub returns-in-Some-clause-exactly : goal.returns-in-Some-clause-exactly
-returns-in-Some-clause-exactly g c es =
-    let found : option_map (λ v. map g.F.Field.bits_of v.items) c.in_ok-members.field-0 ≡ answer_at g.F.Field.BITS (map g.F.Field.bits_of c.args.sketch.now) =
-    c.in_ok-members.ensures c.args.sketch.now (subst (IsAllSums g.F.Field.ops c.args.sketch.now) (sym c.as_slice-2.ensures.value) c.in_ok-sums.ensures.ok) in
-    let is : Some (map g.F.Field.bits_of c.in-Some.members.items) ≡ answer_at g.F.Field.BITS (map g.F.Field.bits_of c.args.sketch.now) =
-    subst (λ o. option_map (λ v. map g.F.Field.bits_of v.items) o ≡ answer_at g.F.Field.BITS (map g.F.Field.bits_of c.args.sketch.now)) c.in-Some.is found in
-    let same : Some (map g.F.Field.bits_of c.from_vec.result) ≡ Some (map g.F.Field.bits_of c.in-Some.members.items) = ap (λ v. Some (map g.F.Field.bits_of v)) c.from_vec.ensures in
-    exactly g.F.Field.ops g.met.F.Field.ring g.F.Field.bits_of g.F.Field.BITS g.met.F.Field.field g.met.F.Field.numbered (Some (map g.F.Field.bits_of c.from_vec.result)) (map g.F.Field.bits_of c.args.sketch.now) es (same ∙ is)
+pub returns-in-Some : goal.returns-in-Some
+returns-in-Some g c = record {
+  answer = is;
+  exactly = λ es. exactly g.F.Field.ops g.met.F.Field.ring g.F.Field.bits_of g.F.Field.BITS g.met.F.Field.field g.met.F.Field.numbered (Some (map g.F.Field.bits_of c.from_vec.result)) (map g.F.Field.bits_of c.args.sketch.now) es is;
+  difference = λ xs ys in_xs in_ys apart_xs apart_ys few sums. differs g.F.Field.ops g.met.F.Field.ring g.F.Field.bits_of g.F.Field.BITS g.met.F.Field.field g.met.F.Field.numbered (Some (map g.F.Field.bits_of c.from_vec.result)) (map g.F.Field.bits_of c.args.sketch.now) xs ys (length c.args.sketch.now) is in_xs in_ys apart_xs apart_ys few sums;
+}
+  where
+    found : option_map (λ v. map g.F.Field.bits_of v.items) c.in_ok-members.field-0 ≡ answer_at g.F.Field.BITS (map g.F.Field.bits_of c.args.sketch.now)
+    found = c.in_ok-members.ensures c.args.sketch.now (subst (IsAllSums g.F.Field.ops c.args.sketch.now) (sym c.as_slice-2.ensures.value) c.in_ok-sums.ensures.ok)
 
-pub returns-in-Some-clause-difference : goal.returns-in-Some-clause-difference
-returns-in-Some-clause-difference g c xs ys in_xs in_ys apart_xs apart_ys few sums =
-    let found : option_map (λ v. map g.F.Field.bits_of v.items) c.in_ok-members.field-0 ≡ answer_at g.F.Field.BITS (map g.F.Field.bits_of c.args.sketch.now) =
-    c.in_ok-members.ensures c.args.sketch.now (subst (IsAllSums g.F.Field.ops c.args.sketch.now) (sym c.as_slice-2.ensures.value) c.in_ok-sums.ensures.ok) in
-    let is : Some (map g.F.Field.bits_of c.in-Some.members.items) ≡ answer_at g.F.Field.BITS (map g.F.Field.bits_of c.args.sketch.now) =
-    subst (λ o. option_map (λ v. map g.F.Field.bits_of v.items) o ≡ answer_at g.F.Field.BITS (map g.F.Field.bits_of c.args.sketch.now)) c.in-Some.is found in
-    let same : Some (map g.F.Field.bits_of c.from_vec.result) ≡ Some (map g.F.Field.bits_of c.in-Some.members.items) = ap (λ v. Some (map g.F.Field.bits_of v)) c.from_vec.ensures in
-    differs g.F.Field.ops g.met.F.Field.ring g.F.Field.bits_of g.F.Field.BITS g.met.F.Field.field g.met.F.Field.numbered (Some (map g.F.Field.bits_of c.from_vec.result)) (map g.F.Field.bits_of c.args.sketch.now) xs ys (length c.args.sketch.now) (same ∙ is) in_xs in_ys apart_xs apart_ys few sums
+    is : Some (map g.F.Field.bits_of c.from_vec.result) ≡ answer_at g.F.Field.BITS (map g.F.Field.bits_of c.args.sketch.now)
+    is = ap (λ v. Some (map g.F.Field.bits_of v)) c.from_vec.ensures ∙ subst (λ o. option_map (λ v. map g.F.Field.bits_of v.items) o ≡ answer_at g.F.Field.BITS (map g.F.Field.bits_of c.args.sketch.now)) c.in-Some.is found
 
-pub returns-clause-exactly : goal.returns-clause-exactly
-returns-clause-exactly g c es =
-    let found : option_map (λ v. map g.F.Field.bits_of v.items) c.in_ok-members.field-0 ≡ answer_at g.F.Field.BITS (map g.F.Field.bits_of c.args.sketch.now) =
-    c.in_ok-members.ensures c.args.sketch.now (subst (IsAllSums g.F.Field.ops c.args.sketch.now) (sym c.as_slice-2.ensures.value) c.in_ok-sums.ensures.ok) in
-    let is : None ≡ answer_at g.F.Field.BITS (map g.F.Field.bits_of c.args.sketch.now) =
-    subst (λ o. option_map (λ v. map g.F.Field.bits_of v.items) o ≡ answer_at g.F.Field.BITS (map g.F.Field.bits_of c.args.sketch.now)) c.in-None.is found in
-    exactly g.F.Field.ops g.met.F.Field.ring g.F.Field.bits_of g.F.Field.BITS g.met.F.Field.field g.met.F.Field.numbered None (map g.F.Field.bits_of c.args.sketch.now) es is
+pub returns : goal.returns
+returns g c = record {
+  answer = is;
+  exactly = λ es. exactly g.F.Field.ops g.met.F.Field.ring g.F.Field.bits_of g.F.Field.BITS g.met.F.Field.field g.met.F.Field.numbered None (map g.F.Field.bits_of c.args.sketch.now) es is;
+  difference = λ xs ys in_xs in_ys apart_xs apart_ys few sums. differs g.F.Field.ops g.met.F.Field.ring g.F.Field.bits_of g.F.Field.BITS g.met.F.Field.field g.met.F.Field.numbered None (map g.F.Field.bits_of c.args.sketch.now) xs ys (length c.args.sketch.now) is in_xs in_ys apart_xs apart_ys few sums;
+}
+  where
+    found : option_map (λ v. map g.F.Field.bits_of v.items) c.in_ok-members.field-0 ≡ answer_at g.F.Field.BITS (map g.F.Field.bits_of c.args.sketch.now)
+    found = c.in_ok-members.ensures c.args.sketch.now (subst (IsAllSums g.F.Field.ops c.args.sketch.now) (sym c.as_slice-2.ensures.value) c.in_ok-sums.ensures.ok)
 
-pub returns-clause-difference : goal.returns-clause-difference
-returns-clause-difference g c xs ys in_xs in_ys apart_xs apart_ys few sums =
-    let found : option_map (λ v. map g.F.Field.bits_of v.items) c.in_ok-members.field-0 ≡ answer_at g.F.Field.BITS (map g.F.Field.bits_of c.args.sketch.now) =
-    c.in_ok-members.ensures c.args.sketch.now (subst (IsAllSums g.F.Field.ops c.args.sketch.now) (sym c.as_slice-2.ensures.value) c.in_ok-sums.ensures.ok) in
-    let is : None ≡ answer_at g.F.Field.BITS (map g.F.Field.bits_of c.args.sketch.now) =
-    subst (λ o. option_map (λ v. map g.F.Field.bits_of v.items) o ≡ answer_at g.F.Field.BITS (map g.F.Field.bits_of c.args.sketch.now)) c.in-None.is found in
-    differs g.F.Field.ops g.met.F.Field.ring g.F.Field.bits_of g.F.Field.BITS g.met.F.Field.field g.met.F.Field.numbered None (map g.F.Field.bits_of c.args.sketch.now) xs ys (length c.args.sketch.now) is in_xs in_ys apart_xs apart_ys few sums
+    is : None ≡ answer_at g.F.Field.BITS (map g.F.Field.bits_of c.args.sketch.now)
+    is = subst (λ o. option_map (λ v. map g.F.Field.bits_of v.items) o ≡ answer_at g.F.Field.BITS (map g.F.Field.bits_of c.args.sketch.now)) c.in-None.is found
