@@ -12,7 +12,6 @@ import sys
 sys.dont_write_bytecode = True
 from timed import is_kept, lines_of
 
-CRATES = ["base_types", "sketch_rules", "sketch_laws", "field_core", "poly_rules", "poly_laws", "poly_ops"]
 USES = ["base_types", "field_core", "poly_ops", "poly_rules", "sketch_rules"]
 
 PROGRAM = r'''//! Times calls of the libraries.
@@ -117,7 +116,7 @@ fn main(rt: HostRuntime) -> io::Result<()> {
 
 def main():
     best = {}
-    for line in lines_of(PROGRAM, CRATES, USES, is_kept(__doc__)):
+    for line in lines_of(PROGRAM, USES, is_kept(__doc__)):
         name, time = line.split()[:2]
         best[name] = min(int(time), best.get(name, int(time)))
     print(f"product          {best['product'] / 1000 / 1024:8.2f} ns, in a chain")

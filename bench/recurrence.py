@@ -13,8 +13,6 @@ import sys
 sys.dont_write_bytecode = True
 from timed import is_kept, lines_of
 
-CRATES = ["base_types", "sketch_rules", "sketch_laws", "field_core", "poly_rules", "poly_laws", "recurrence_laws",
-          "poly_ops", "bm_solver"]
 USES = ["base_types", "field_core", "bm_solver"]
 ROUNDS = {64: 200, 1024: 7, 4096: 5}
 
@@ -64,7 +62,7 @@ fn main(rt: HostRuntime) -> io::Result<()> {
 def main():
     sizes = ", ".join(f"({n}, {rounds})" for n, rounds in ROUNDS.items())
     best, length = {}, {}
-    for line in lines_of(PROGRAM.replace("[SIZES]", f"[{sizes}]"), CRATES, USES, is_kept(__doc__)):
+    for line in lines_of(PROGRAM.replace("[SIZES]", f"[{sizes}]"), USES, is_kept(__doc__)):
         n, time, found = map(int, line.split())
         best[n], length[n] = min(time, best.get(n, time)), found
     for n in ROUNDS:

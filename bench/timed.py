@@ -11,25 +11,38 @@ def is_kept(about):
     return words.parse_args().keep
 
 
-def lay_out(folder, program, crates, uses):
-    """Copies of the crates, and beside them the program as a crate that stands on `uses`."""
-    for crate in crates:
+def stood_on(uses):
+    """The lines of crates.txt of these crates and of all that they stand on, in its order."""
+    with open(os.path.join(TOP, "crates.txt")) as file:
+        lines = {line.split(":")[0]: line for line in file if not line.startswith("#")}
+    wanted = set()
+    todo = list(uses)
+    while todo:
+        crate = todo.pop()
+        if crate in lines and crate not in wanted:
+            wanted.add(crate)
+            todo += lines[crate].split(":")[1].split()
+    return {crate: line for crate, line in lines.items() if crate in wanted}
+
+
+def lay_out(folder, program, uses):
+    """Copies of the crates that the program needs, and beside them the program as a crate that stands on `uses`."""
+    lines = stood_on(uses)
+    for crate in lines:
         shutil.copytree(os.path.join(TOP, "crates", crate), os.path.join(folder, "crates", crate),
                         ignore=shutil.ignore_patterns("out"))
-    with open(os.path.join(TOP, "crates.txt")) as file:
-        lines = [line for line in file if line.split(":")[0] in crates]
     with open(os.path.join(folder, "crates.txt"), "w") as file:
-        file.writelines(lines + ["timed: " + " ".join(uses) + "\n"])
+        file.writelines(list(lines.values()) + ["timed: " + " ".join(uses) + "\n"])
     os.makedirs(os.path.join(folder, "crates/timed/src"))
     with open(os.path.join(folder, "crates/timed/src/main.rt"), "w") as file:
         file.write(program)
 
 
-def lines_of(program, crates, uses, keep):
+def lines_of(program, uses, keep):
     """The lines that the program writes, once it is proved and built."""
     folder = tempfile.mkdtemp(prefix="erlay-bench-")
     try:
-        lay_out(folder, program, crates, uses)
+        lay_out(folder, program, uses)
         ran = subprocess.run(["rt", "run"], cwd=os.path.join(folder, "crates/timed"), stdin=subprocess.DEVNULL,
                              stdout=subprocess.PIPE, stderr=subprocess.PIPE, text=True)
         if ran.returncode != 0:
