@@ -14,11 +14,12 @@ use Rattle.wire_rules.specs.declared.phase.Phase.TheVariants as phase
 use Rattle.wire_rules.proofs.Samples.{magic}
 use Rattle.pool_rules.specs.Snapshots.{members}
 use Rattle.node_rules.specs.Handshake.{own_version, introduction, opening_messages}
+use Rattle.node_rules.specs.State.{opening_state}
 use Rattle.node_rules.specs.Steps.{takes_all, receives}
 use Rattle.node_rules.specs.Turns.{inv_of}
 use Rattle.node_rules.specs.declared.config.Role.TheVariants as role
 use Rattle.node_rules.specs.declared.end.End.TheVariants as end
-use Rattle.node_rules.proofs.Samples.{stepping, receiving, config_of, new_opener, new_accepter, hello, abc, introduced, end_of, sent_for}
+use Rattle.node_rules.proofs.Samples.{stepping, receiving, config_of, config_with, new_opener, new_accepter, hello, abc, introduced, end_of, sent_for}
 
 abbrev v : Message
 v = message.Version (own_version (config_of role.Opener 1))
@@ -30,7 +31,7 @@ abbrev w : Message
 w = message.WtxidRelay
 
 abbrev s : Message
-s = message.SendTxRcncl 1 1
+s = message.SendTxRcncl 2 1
 
 abbrev k : Message
 k = message.Verack
@@ -47,14 +48,14 @@ unfolding stepping
 accepter_waits = refl
 
 -- an accepter answers the peer's version with its own and its introduction, and has all of its pool as its set in the end
-accepter_says : sent_for (new_accepter (hello ∷ [])) (introduced 1) ≡ message.Version (own_version (config_of role.Accepter 2)) ∷ w ∷ message.SendTxRcncl 1 2 ∷ k ∷ []
+accepter_says : sent_for (new_accepter (hello ∷ [])) (introduced 1) ≡ message.Version (own_version (config_of role.Accepter 2)) ∷ w ∷ message.SendTxRcncl 2 2 ∷ k ∷ []
 unfolding stepping
 accepter_says = refl
 
 accepter_through : (takes_all (new_accepter (hello ∷ [])) (introduced 1)).state ≡ record (new_accepter (hello ∷ [])) {
-  machine = record (new_accepter []).machine { phase = phase.Idle };
+  machine = record (new_accepter []).machine { phase = phase.Idle; level = 2 };
   set = members (keys_of 1 2) (hello.id ∷ []);
-  peer = record { relays_by_id = true; offer = Some (record { salt = 1 }) };
+  peer = record { relays_by_id = true; offer = Some (record { version = 2; salt = 1 }) };
 }
 unfolding stepping
 accepter_through = refl
@@ -75,6 +76,14 @@ plain : takes_all (new_accepter (hello ∷ abc ∷ [])) (v ∷ w ∷ k ∷ []) �
 }
 unfolding stepping
 plain = refl
+
+-- the level is the lesser of both highest versions. A version above the own one counts as that
+abbrev level_with : ℕ → ℕ → ℕ
+level_with own peers = (takes_all (opening_state (config_with own role.Accepter 2) []) (v ∷ w ∷ message.SendTxRcncl peers 1 ∷ k ∷ [])).state.machine.level
+
+levels : (level_with 1 1 ≡ 1) × (level_with 1 2 ≡ 1) × (level_with 2 1 ≡ 1) × (level_with 2 2 ≡ 2) × (level_with 2 3 ≡ 2)
+unfolding stepping
+levels = (refl, refl, refl, refl, refl)
 
 -- pings and messages of other commands are passed over before the end of the handshake; a repeated `wtxidrelay` is too
 passed_over : end_of (new_accepter []) (message.Ping 1 ∷ message.Other (codes "feefilter" ++ replicate 3 0) [] ∷ v ∷ message.Pong 1 ∷ w ∷ w ∷ message.Ping 2 ∷ s ∷ k ∷ []) ≡ None

@@ -101,7 +101,7 @@ added_ended = refl
 
 -- 20,000 transactions. What stands in them plays no part here, so they are all alike
 abbrev full : List Held
-full = replicate 20000 (record { id = record { 0 = [] }; bytes = 1 ∷ [] })
+full = replicate 50000 (record { id = record { 0 = [] }; bytes = 1 ∷ [] })
 
 abbrev full_accepter : NodeState
 full_accepter = record (accepter_with []) { pool = full }

@@ -13,14 +13,14 @@ use Rattle.pool_rules.specs.declared.report.Ending.{Ending}
 use Rattle.pool_rules.specs.declared.report.Ending.TheVariants as ending
 use Rattle.node_rules.specs.Stages.{sent, given, answered_at, capacity_after, is_idle}
 use Rattle.node_rules.specs.State.{Round, Machine, extensions_allowed}
-use Rattle.node_rules.specs.Turns.{Move, inv_of}
-use Rattle.node_rules.specs.Opener.{is_in, announcement, report_of, closed}
+use Rattle.node_rules.specs.Turns.{Response, inv_of}
+use Rattle.node_rules.specs.Outcomes.{is_in, announcement, report_of, closed}
 use Rattle.node_rules.specs.declared.end.End.{End}
 use Rattle.node_rules.specs.declared.end.End.TheVariants as end
 
 -- ---- a request for a sketch
 
--- the set is taken, and a sketch of it is to be made
+-- the set is taken whole, and a sketch of it is to be made
 abbrev pub taken : List Member → ℕ → ℕ → Round
 taken set size q = record { snapshot = set; capacity = capacity size (length set) q; sums = [] }
 
@@ -28,19 +28,18 @@ taken set size q = record { snapshot = set; capacity = capacity size (length set
 abbrev pub first_portion : Round → List ℕ
 first_portion r = bytes_of (snapshot_sums r.snapshot 0 r.capacity)
 
-abbrev pub first_sketch : Machine → Round → Move
+abbrev pub first_sketch : Machine → Round → Response
 first_sketch m r = record {
   machine = record m { phase = sent 0; round = r };
-  set = [];
   out = message.Sketch (first_portion r) ∷ [];
 }
 
 -- by whether no round is under way
-unfoldable pub reqrecon_by : Bool → Machine → List Member → ℕ → ℕ → Result Move End
+unfoldable pub reqrecon_by : Bool → Machine → List Member → ℕ → ℕ → Result Response End
 reqrecon_by true m set size q = Ok (first_sketch m (taken set size q))
 reqrecon_by false m set size q = Err (end.Misplaced name.ReqRecon m.phase)
 
-abbrev pub accepter_reqrecon : Machine → List Member → ℕ → ℕ → Result Move End
+abbrev pub accepter_reqrecon : Machine → List Member → ℕ → ℕ → Result Response End
 accepter_reqrecon m set size q = reqrecon_by (is_idle m.phase) m set size q
 
 -- ---- a request for an extension
@@ -49,24 +48,23 @@ accepter_reqrecon m set size q = reqrecon_by (is_idle m.phase) m set size q
 abbrev pub next_portion : Round → ℕ → List ℕ
 next_portion r n = bytes_of (snapshot_sums r.snapshot (capacity_after r.capacity n) (capacity_after r.capacity n))
 
-abbrev pub extends : Machine → List Member → ℕ → Move
-extends m set n = record {
+abbrev pub extends : Machine → ℕ → Response
+extends m n = record {
   machine = record m { phase = sent (suc n) };
-  set = set;
   out = message.Sketch (next_portion m.round n) ∷ [];
 }
 
 -- by whether one more extension may be asked for
-unfoldable pub extended_by : Bool → Machine → List Member → ℕ → Result Move End
-extended_by true m set n = Ok (extends m set n)
-extended_by false m set n = Err (end.Misplaced name.ReqSketchExt m.phase)
+unfoldable pub extended_by : Bool → Machine → ℕ → Result Response End
+extended_by true m n = Ok (extends m n)
+extended_by false m n = Err (end.Misplaced name.ReqSketchExt m.phase)
 
-unfoldable pub extension_after : Option ℕ → Machine → List Member → Result Move End
-extension_after None m set = Err (end.Misplaced name.ReqSketchExt m.phase)
-extension_after (Some n) m set = extended_by (nat_lt n (extensions_allowed m)) m set n
+unfoldable pub extension_after : Option ℕ → Machine → Result Response End
+extension_after None m = Err (end.Misplaced name.ReqSketchExt m.phase)
+extension_after (Some n) m = extended_by (nat_lt n (extensions_allowed m)) m n
 
-abbrev pub accepter_extension : Machine → List Member → Result Move End
-accepter_extension m set = extension_after (given m.phase) m set
+abbrev pub accepter_extension : Machine → Result Response End
+accepter_extension m = extension_after (given m.phase) m
 
 -- ---- the difference
 
@@ -96,20 +94,19 @@ ending_of true n = answered_at n
 ending_of false n = ending.Fallback
 
 -- the round is over for the accepter
-abbrev pub resolved : Machine → List Member → ℕ → Bool → List ℕ → Move
-resolved m set n success asks = record {
-  machine = closed m phase.Idle m.coefficient (report_of m.round (ending_of success n) asks);
-  set = set;
+abbrev pub resolved : Machine → ℕ → Bool → List ℕ → Response
+resolved m n success asks = record {
+  machine = closed m phase.Idle (report_of m.round (ending_of success n) asks);
   out = inv_of (offered success m.round asks);
 }
 
-unfoldable pub diff_by : Option End → Machine → List Member → ℕ → Bool → List ℕ → Result Move End
-diff_by (Some e) m set n success asks = Err e
-diff_by None m set n success asks = Ok (resolved m set n success asks)
+unfoldable pub diff_by : Option End → Machine → ℕ → Bool → List ℕ → Result Response End
+diff_by (Some e) m n success asks = Err e
+diff_by None m n success asks = Ok (resolved m n success asks)
 
-unfoldable pub diff_after : Option ℕ → Machine → List Member → Bool → List ℕ → Result Move End
-diff_after None m set success asks = Err (end.Misplaced name.ReconcilDiff m.phase)
-diff_after (Some n) m set success asks = diff_by (diff_fault success m.round asks) m set n success asks
+unfoldable pub diff_after : Option ℕ → Machine → Bool → List ℕ → Result Response End
+diff_after None m success asks = Err (end.Misplaced name.ReconcilDiff m.phase)
+diff_after (Some n) m success asks = diff_by (diff_fault success m.round asks) m n success asks
 
-abbrev pub accepter_diff : Machine → List Member → Bool → List ℕ → Result Move End
-accepter_diff m set success asks = diff_after (given m.phase) m set success asks
+abbrev pub accepter_diff : Machine → Bool → List ℕ → Result Response End
+accepter_diff m success asks = diff_after (given m.phase) m success asks

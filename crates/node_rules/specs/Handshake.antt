@@ -1,5 +1,5 @@
 -- The handshake: `version`, `wtxidrelay` (BIP 339), `sendtxrcncl` (BIP 330) and `verack`, from each side.
-use Rattle.std.specs.Prelude.{ℕ, ◌==◌, int_lt, Bool, true, false, List, [], ◌∷◌, replicate, pos, is_some, codes, Some, None}
+use Rattle.std.specs.Prelude.{ℕ, ◌==◌, int_lt, min, Bool, true, false, List, [], ◌∷◌, replicate, pos, is_some, codes, Some, None}
 use Rattle.std.specs.declared.option.Option.{Option}
 use Rattle.id_rules.specs.Ids.{keys_of}
 use Rattle.wire_rules.specs.Commands.{name_of}
@@ -32,9 +32,16 @@ own_version c = record {
   relay = Some 1;
 }
 
+-- what a node offers: its highest version of reconciliation, and its salt
+abbrev pub own_offer : Config → Offer
+own_offer c = record { version = c.top; salt = c.salt }
+
+abbrev pub offer_message : Offer → Message
+offer_message o = message.SendTxRcncl o.version o.salt
+
 -- what a node says once the peer's `version` came
 abbrev pub introduction : Config → List Message
-introduction c = message.WtxidRelay ∷ message.SendTxRcncl 1 c.salt ∷ message.Verack ∷ []
+introduction c = message.WtxidRelay ∷ offer_message (own_offer c) ∷ message.Verack ∷ []
 
 -- what a new node has to send, and what it says before its introduction: the opener speaks first
 unfoldable pub opening : Role → Config → List Message
@@ -87,24 +94,32 @@ with_peer s peer = record s { peer = peer }
 abbrev pub on_wtxidrelay : NodeState → Turn
 on_wtxidrelay s = passed (with_peer s (record s.peer { relays_by_id = true }))
 
--- by whether the version is 0, and whether one came before. A version above 1 counts as 1
-unfoldable pub offer_by : Bool → Bool → NodeState → ℕ → Turn
-offer_by true again s salt = refused s end.ZeroReconVersion
-offer_by false true s salt = strays s name.SendTxRcncl
-offer_by false false s salt = passed (with_peer s (record s.peer { offer = Some (record { salt = salt }) }))
+-- by whether the version is 0, and whether one came before
+unfoldable pub offer_by : Bool → Bool → NodeState → Offer → Turn
+offer_by true again s offer = refused s end.ZeroReconVersion
+offer_by false true s offer = strays s name.SendTxRcncl
+offer_by false false s offer = passed (with_peer s (record s.peer { offer = Some offer }))
 
-abbrev pub on_sendtxrcncl : NodeState → ℕ → ℕ → Turn
-on_sendtxrcncl s version salt = offer_by (version == 0) (is_some s.peer.offer) s salt
+abbrev pub on_sendtxrcncl : NodeState → Offer → Turn
+on_sendtxrcncl s offer = offer_by (offer.version == 0) (is_some s.peer.offer) s offer
 
--- the handshake is over: the set is all of the pool, and the node is plain or isn't
-abbrev pub through : NodeState → Bool → List Member → NodeState
-through s plain set = record s { machine = record s.machine { phase = phase.Idle }; plain = plain; set = set }
+-- the level of a connection: the lesser of the own highest version and the peer's, and 1 where nothing is reconciled. So a
+-- version above the own one counts as that
+unfoldable pub level_of : ℕ → Option Offer → ℕ
+level_of top (Some offer) = min top offer.version
+level_of top None = 1
 
--- by whether the peer relays by wtxid, and by its offer. A plain node announces all of its pool, and has no set
+-- the handshake is over, at this level: the node is plain or isn't, and has this set
+abbrev pub through : NodeState → ℕ → Bool → List Member → NodeState
+through s level plain set = record s { machine = record s.machine { phase = phase.Idle; level = level }; plain = plain; set = set }
+
+-- by whether the peer relays by wtxid, and by its offer. A plain node announces all of its pool, and has no set; the set of
+-- another is all of its pool
 unfoldable pub verack_by : Bool → Option Offer → NodeState → Turn
 verack_by false offer s = refused s end.NoWtxidRelay
-verack_by true None s = sends (through s true []) (inv_of (pool_ids s.pool))
-verack_by true (Some offer) s = passed (through s false (members (keys_of s.config.salt offer.salt) (pool_ids s.pool)))
+verack_by true None s = sends (through s (level_of s.config.top None) true []) (inv_of (pool_ids s.pool))
+verack_by true (Some offer) s =
+    passed (through s (level_of s.config.top (Some offer)) false (members (keys_of s.config.salt offer.salt) (pool_ids s.pool)))
 
 abbrev pub on_verack : NodeState → Turn
 on_verack s = verack_by s.peer.relays_by_id s.peer.offer s
@@ -112,7 +127,7 @@ on_verack s = verack_by s.peer.relays_by_id s.peer.offer s
 -- behind the peer's version
 unfoldable pub in_greeted : NodeState → Message → Turn
 in_greeted s message.WtxidRelay = on_wtxidrelay s
-in_greeted s (message.SendTxRcncl version salt) = on_sendtxrcncl s version salt
+in_greeted s (message.SendTxRcncl version salt) = on_sendtxrcncl s (record { version = version; salt = salt })
 in_greeted s message.Verack = on_verack s
 in_greeted s (message.Ping n) = passed s
 in_greeted s (message.Pong n) = passed s

@@ -8,7 +8,7 @@ use Rattle.wire_rules.specs.declared.message.Message.TheVariants as message
 use Rattle.pool_rules.specs.Pools.{Held, held, listed, without, in_pool, bytes_of_id, bytes_fit}
 use Rattle.pool_rules.specs.Snapshots.{Member}
 use Rattle.pool_rules.specs.declared.limits.TheConstants.{POOL_LIMIT}
-use Rattle.node_rules.specs.Stages.{settled}
+use Rattle.node_rules.specs.Barrier.{settled}
 use Rattle.node_rules.specs.State.{NodeState, open_wants, taken_room}
 use Rattle.node_rules.specs.Turns.{Turn, passed, sends, refused, getdata_of, notfound_of}
 use Rattle.node_rules.specs.declared.config.Role.{Role}

@@ -1,9 +1,13 @@
 pub mod Stages
 pub mod State
 pub mod Turns
+pub mod Outcomes
 pub mod Opener
 pub mod Accepter
+pub mod Barrier
 pub mod Inventory
 pub mod Handshake
 pub mod Additions
 pub mod Steps
+pub mod Memory
+pub mod Invariant

@@ -1,9 +1,7 @@
 -- The opener's machine of rounds (BIP 330, with this project's rules where that leaves them open).
-use Rattle.std.specs.Prelude.{ℕ, zero, suc, ◌+◌, ◌*◌, ◌/◌, ◌%◌, ◌^◌, ◌==◌, ◌&&◌, ◌||◌, nat_lt, nat_le, not, Bool, true, false, if◌then◌else◌, List, [], ◌∷◌, ◌++◌, length, filter, Some, None, Ok, Err}
-use Rattle.std.specs.List.{list_any}
+use Rattle.std.specs.Prelude.{ℕ, zero, suc, ◌+◌, ◌*◌, ◌/◌, ◌%◌, ◌^◌, ◌==◌, ◌&&◌, nat_lt, nat_le, not, Bool, true, false, if◌then◌else◌, List, [], ◌∷◌, ◌++◌, length, Some, None, Ok, Err}
 use Rattle.std.specs.declared.option.Option.{Option}
 use Rattle.std.specs.declared.result.Result.{Result}
-use Rattle.base_types.specs.declared.lists.Hash32.{Hash32}
 use Rattle.sketch_rules.specs.Answers.{answer_of}
 use Rattle.sketch_rules.specs.Sketches.{merged, sums_in}
 use Rattle.wire_rules.specs.declared.message.Message.{Message}
@@ -12,50 +10,48 @@ use Rattle.wire_rules.specs.declared.name.Name.TheVariants as name
 use Rattle.wire_rules.specs.declared.phase.Phase.{Phase}
 use Rattle.wire_rules.specs.declared.phase.Phase.TheVariants as phase
 use Rattle.pool_rules.specs.Capacity.{next_q, next_q_failed}
-use Rattle.pool_rules.specs.Snapshots.{Member, ids_of, sketched_shorts, is_single, snapshot_sketch}
+use Rattle.pool_rules.specs.Snapshots.{Member, ids_of, sketched_shorts, snapshot_sketch}
 use Rattle.pool_rules.specs.declared.limits.TheConstants.{FIRST_LIMIT}
-use Rattle.pool_rules.specs.declared.report.Ending.{Ending}
 use Rattle.pool_rules.specs.declared.report.Ending.TheVariants as ending
-use Rattle.pool_rules.specs.declared.report.Report.{Report}
-use Rattle.node_rules.specs.Stages.{waiting, asked_for, answered_at, capacity_after, is_barrier, behind_barrier}
-use Rattle.node_rules.specs.State.{Round, Machine, no_round, extensions_allowed}
+use Rattle.node_rules.specs.Outcomes.{mine_in, asks_in, announcement, report_of, closed}
+use Rattle.node_rules.specs.Stages.{waiting, asked_for, answered_at, capacity_after, is_idle}
+use Rattle.node_rules.specs.State.{Round, Machine, Requests, Initiator, extensions_allowed}
 use Rattle.node_rules.specs.Turns.{Move, inv_of}
 use Rattle.node_rules.specs.declared.end.End.{End}
 use Rattle.node_rules.specs.declared.end.End.TheVariants as end
 
 -- ---- the start of a round
 
--- one more round is begun, modulo 2 ^ 64, and the phase is this one
-abbrev pub with_round : Machine → Phase → Machine
-with_round m next = record m { phase = next; begun = (m.begun + 1) % 2 ^ 64 }
+-- the machine behind the start of a round, and the message that starts it
+pub record Start : Type 0 where
+  pub initiator : Initiator
+  pub message : Message
 
--- the message that starts a round for a set of this size
-abbrev pub round_request : Machine → ℕ → Message
-round_request m size = message.ReqRecon size m.coefficient
+-- one more round is begun, modulo 2 ^ 64
+abbrev pub one_more : Requests → Requests
+one_more k = record k { begun = (k.begun + 1) % 2 ^ 64 }
 
--- ---- what both sides announce
+abbrev pub with_round : Initiator → Phase → Initiator
+with_round i next = record { machine = record i.machine { phase = next }; requests = one_more i.requests }
 
--- whether a number stands in a list
-abbrev pub is_in : List ℕ → ℕ → Bool
-is_in ns n = list_any (λ other. other == n) ns
+-- a request for the sketch of a set, where the own one has this size
+abbrev pub round_start : Initiator → ℕ → Start
+round_start i size = record { initiator = with_round i (waiting 0); message = message.ReqRecon size i.requests.coefficient }
 
--- the short ids of a list that are sketched in a snapshot, and those that aren't, which the other side alone has
-abbrev pub mine_in : List Member → List ℕ → List ℕ
-mine_in snapshot shorts = filter (λ n. is_in (sketched_shorts snapshot) n) shorts
+-- with a plain peer, the round's ping alone
+abbrev pub plain_start : Initiator → Start
+plain_start i = record { initiator = with_round i phase.Barrier; message = message.Ping (one_more i.requests).begun }
 
-abbrev pub asks_in : List Member → List ℕ → List ℕ
-asks_in snapshot shorts = filter (λ n. not (is_in (sketched_shorts snapshot) n)) shorts
+-- a round starts between rounds alone
+unfoldable pub start_if : Bool → Start → Option Start
+start_if true x = Some x
+start_if false x = None
 
--- the ids of a snapshot that are set aside or whose short ids are in a list, in snapshot order
-abbrev pub announcement : List Member → List ℕ → List Hash32
-announcement snapshot shorts = ids_of (filter (λ m. not (is_single snapshot m.short) || is_in shorts m.short) snapshot)
+abbrev pub initiator_start : Initiator → ℕ → Option Start
+initiator_start i size = start_if (is_idle i.machine.phase) (round_start i size)
 
-abbrev pub report_of : Round → Ending → List ℕ → Report
-report_of r e shorts = record { snapshot = ids_of r.snapshot; capacity = r.capacity; ending = e; answered = shorts }
-
--- a round is over: its report, the next coefficient and the phase
-abbrev pub closed : Machine → Phase → ℕ → Report → Machine
-closed m next q report = record m { phase = next; round = no_round; coefficient = q; reports = m.reports ++ report ∷ [] }
+abbrev pub initiator_plain_start : Initiator → Option Start
+initiator_plain_start i = start_if (is_idle i.machine.phase) (plain_start i)
 
 -- ---- the answer to a sketch
 
@@ -73,7 +69,11 @@ left_over (suc n) set = set
 abbrev pub combined : Round → List ℕ
 combined r = merged r.sums (snapshot_sketch r.snapshot (length r.sums))
 
--- the set whose sketch that is, where some set has it. An empty sketch has no answer
+-- the sketch that is to be answered: none where the peer's is empty
+abbrev pub question : Round → Option (List ℕ)
+question r = if r.capacity == 0 then None else Some (combined r)
+
+-- the set whose sketch that is, where some set has it
 abbrev pub answer_to : Round → Option (List ℕ)
 answer_to r = if r.capacity == 0 then None else answer_of (combined r)
 
@@ -82,25 +82,31 @@ abbrev pub coefficient_after : List Member → List ℕ → ℕ
 coefficient_after snapshot es = next_q (length (mine_in snapshot es)) (length (asks_in snapshot es)) (length (sketched_shorts snapshot))
 
 -- the round is answered by a set, with n extensions: what is missing is asked for, what the peer lacks is announced
-abbrev pub answered : Machine → Round → ℕ → List ℕ → List Member → Move
-answered m r n es set = record {
-  machine = closed m phase.Barrier (coefficient_after r.snapshot es) (report_of r (answered_at n) es);
+abbrev pub answered : Initiator → Round → ℕ → List ℕ → List Member → Move
+answered i r n es set = record {
+  initiator = record {
+    machine = closed i.machine phase.Barrier (report_of r (answered_at n) es);
+    requests = record i.requests { coefficient = coefficient_after r.snapshot es };
+  };
   set = set;
-  out = message.ReconcilDiff true (asks_in r.snapshot es) ∷ (inv_of (announcement r.snapshot es) ++ message.Ping m.begun ∷ []);
+  out = message.ReconcilDiff true (asks_in r.snapshot es) ∷ (inv_of (announcement r.snapshot es) ++ message.Ping i.requests.begun ∷ []);
 }
 
 -- the round falls back: all is announced
-abbrev pub fell_back : Machine → Round → List Member → Move
-fell_back m r set = record {
-  machine = closed m phase.Barrier (next_q_failed m.coefficient) (report_of r ending.Fallback []);
+abbrev pub fell_back : Initiator → Round → List Member → Move
+fell_back i r set = record {
+  initiator = record {
+    machine = closed i.machine phase.Barrier (report_of r ending.Fallback []);
+    requests = record i.requests { coefficient = next_q_failed i.requests.coefficient };
+  };
   set = set;
-  out = message.ReconcilDiff false [] ∷ (inv_of (ids_of r.snapshot) ++ message.Ping m.begun ∷ []);
+  out = message.ReconcilDiff false [] ∷ (inv_of (ids_of r.snapshot) ++ message.Ping i.requests.begun ∷ []);
 }
 
 -- one more extension is asked for
-abbrev pub asks_more : Machine → Round → ℕ → List Member → Move
-asks_more m r n set = record {
-  machine = record m { phase = waiting (suc n); round = r };
+abbrev pub asks_more : Initiator → Round → ℕ → List Member → Move
+asks_more i r n set = record {
+  initiator = record i { machine = record i.machine { phase = waiting (suc n); round = r } };
   set = set;
   out = message.ReqSketchExt ∷ [];
 }
@@ -110,18 +116,18 @@ abbrev pub may_extend : Machine → Round → ℕ → Bool
 may_extend m r n = not (r.capacity == 0) && nat_lt n (extensions_allowed m)
 
 -- no set has the sketch: by whether it may be extended
-unfoldable pub unanswered : Bool → Machine → Round → ℕ → List Member → Move
-unanswered true m r n set = asks_more m r n set
-unanswered false m r n set = fell_back m r set
+unfoldable pub unanswered : Bool → Initiator → Round → ℕ → List Member → Move
+unanswered true i r n set = asks_more i r n set
+unanswered false i r n set = fell_back i r set
 
 -- by the set that has the sketch, where there is one
-unfoldable pub decided : Option (List ℕ) → Machine → Round → ℕ → List Member → Move
-decided (Some es) m r n set = answered m r n es set
-decided None m r n set = unanswered (may_extend m r n) m r n set
+unfoldable pub decided : Option (List ℕ) → Initiator → Round → ℕ → List Member → Move
+decided (Some es) i r n set = answered i r n es set
+decided None i r n set = unanswered (may_extend i.machine r n) i r n set
 
 -- the same for the bytes of a sketch message
-abbrev pub after_sketch : Option (List ℕ) → Machine → List Member → ℕ → List ℕ → Move
-after_sketch answer m set n bytes = decided answer m (joined m set n bytes) n (left_over n set)
+abbrev pub after_sketch : Option (List ℕ) → Initiator → List Member → ℕ → List ℕ → Move
+after_sketch answer i set n bytes = decided answer i (joined i.machine set n bytes) n (left_over n set)
 
 -- ---- the length of a sketch
 
@@ -138,29 +144,29 @@ length_fault m zero len = if is_first_length len then None else Some (end.Sketch
 length_fault m (suc n) len =
     if len == extension_length m.round.capacity n then None else Some (end.SketchLength len (extension_length m.round.capacity n))
 
-abbrev pub unless : Option End → Move → Result Move End
-unless None move = Ok move
-unless (Some e) move = Err e
+abbrev pub unless : {A : Type 0} → Option End → A → Result A End
+unless None x = Ok x
+unless (Some e) x = Err e
 
--- ---- its rows
+-- ---- a sketch message
 
--- a sketch, by the answer to what it is joined to and by the number of extensions that were asked for
-unfoldable pub sketch_by : Option (List ℕ) → Option ℕ → Machine → List Member → List ℕ → Result Move End
-sketch_by answer None m set bytes = Err (end.Misplaced name.Sketch m.phase)
-sketch_by answer (Some n) m set bytes = unless (length_fault m n (length bytes)) (after_sketch answer m set n bytes)
+-- the question that a sketch message leads to, by the number of extensions that were asked for
+unfoldable pub question_by : Option ℕ → Machine → List Member → List ℕ → Result (Option (List ℕ)) End
+question_by None m set bytes = Err (end.Misplaced name.Sketch m.phase)
+question_by (Some n) m set bytes = unless (length_fault m n (length bytes)) (question (joined m set n bytes))
+
+abbrev pub initiator_question : Machine → List Member → List ℕ → Result (Option (List ℕ)) End
+initiator_question m set bytes = question_by (asked_for m.phase) m set bytes
+
+-- what a sketch message does, by the answer to that question too
+unfoldable pub sketch_by : Option (List ℕ) → Option ℕ → Initiator → List Member → List ℕ → Result Move End
+sketch_by answer None i set bytes = Err (end.Misplaced name.Sketch i.machine.phase)
+sketch_by answer (Some n) i set bytes = unless (length_fault i.machine n (length bytes)) (after_sketch answer i set n bytes)
 
 abbrev pub joined_answer : Option ℕ → Machine → List Member → List ℕ → Option (List ℕ)
 joined_answer None m set bytes = None
 joined_answer (Some n) m set bytes = answer_to (joined m set n bytes)
 
 -- a sketch
-abbrev pub opener_sketch : Machine → List Member → List ℕ → Result Move End
-opener_sketch m set bytes = sketch_by (joined_answer (asked_for m.phase) m set bytes) (asked_for m.phase) m set bytes
-
--- whether a pong ends the round's barrier
-abbrev pub ends_barrier : Machine → ℕ → Bool
-ends_barrier m n = is_barrier m.phase && (n == m.begun)
-
--- the barrier is over, and these ids are asked for
-abbrev pub fetching : Machine → List Hash32 → Machine
-fetching m wanted = record m { phase = behind_barrier wanted }
+abbrev pub opener_sketch : Initiator → List Member → List ℕ → Result Move End
+opener_sketch i set bytes = sketch_by (joined_answer (asked_for i.machine.phase) i.machine set bytes) (asked_for i.machine.phase) i set bytes

@@ -1,8 +1,6 @@
--- The phases of a round by the number of extensions, and the endings of one. Today one extension may be asked for; all
--- else speaks of any number of them.
-use Rattle.std.specs.Prelude.{ℕ, zero, suc, ◌*◌, ◌^◌, Bool, true, false, List, [], ◌∷◌, Some, None}
+-- The phases of a round by the number of extensions, of which there are two at most, and the endings of one.
+use Rattle.std.specs.Prelude.{ℕ, zero, suc, ◌*◌, ◌^◌, Bool, true, false, Some, None}
 use Rattle.std.specs.declared.option.Option.{Option}
-use Rattle.base_types.specs.declared.lists.Hash32.{Hash32}
 use Rattle.wire_rules.specs.declared.phase.Phase.{Phase}
 use Rattle.wire_rules.specs.declared.phase.Phase.TheVariants as phase
 use Rattle.pool_rules.specs.declared.report.Ending.{Ending}
@@ -11,34 +9,40 @@ use Rattle.pool_rules.specs.declared.report.Ending.TheVariants as ending
 -- an opener that has asked for n extensions
 unfoldable pub waiting : ℕ → Phase
 waiting zero = phase.Waiting
-waiting (suc n) = phase.WaitingExt
+waiting (suc zero) = phase.WaitingExt
+waiting (suc (suc n)) = phase.WaitingExt2
 
 -- an accepter that has sent n extensions
 unfoldable pub sent : ℕ → Phase
 sent zero = phase.Sent
-sent (suc n) = phase.SentExt
+sent (suc zero) = phase.SentExt
+sent (suc (suc n)) = phase.SentExt2
 
 -- how many extensions an opener has asked for, where it waits for a sketch
 unfoldable pub asked_for : Phase → Option ℕ
 asked_for phase.Waiting = Some 0
 asked_for phase.WaitingExt = Some 1
+asked_for phase.WaitingExt2 = Some 2
 asked_for other = None
 
 -- how many extensions an accepter has sent, where it has sent a sketch
 unfoldable pub given : Phase → Option ℕ
 given phase.Sent = Some 0
 given phase.SentExt = Some 1
+given phase.SentExt2 = Some 2
 given other = None
 
 -- the ending of a round that is answered with n extensions
 unfoldable pub answered_at : ℕ → Ending
 answered_at zero = ending.First
-answered_at (suc n) = ending.Extension
+answered_at (suc zero) = ending.Extension
+answered_at (suc (suc n)) = ending.Extension2
 
 -- with how many extensions a round was answered, where it was
 unfoldable pub extensions_in : Ending → Option ℕ
 extensions_in ending.First = Some 0
 extensions_in ending.Extension = Some 1
+extensions_in ending.Extension2 = Some 2
 extensions_in ending.Fallback = None
 
 -- the capacity of a sketch with n extensions, each of which doubles it
@@ -50,23 +54,8 @@ unfoldable pub is_idle : Phase → Bool
 is_idle phase.Idle = true
 is_idle other = false
 
--- whether a round's ping is out
-unfoldable pub is_barrier : Phase → Bool
-is_barrier phase.Barrier = true
-is_barrier other = false
-
 -- whether the handshake is over
 unfoldable pub is_past : Phase → Bool
 is_past phase.Greeting = false
 is_past phase.Greeted = false
 is_past other = true
-
--- the phase behind the asking for these ids, of which some may have come
-unfoldable pub settled : List Hash32 → Phase → Phase
-settled [] phase.Fetching = phase.Idle
-settled ids other = other
-
--- the phase once a round's pong has come, where these ids are to be asked for
-unfoldable pub behind_barrier : List Hash32 → Phase
-behind_barrier [] = phase.Idle
-behind_barrier (id ∷ ids) = phase.Fetching

@@ -15,7 +15,8 @@ use Rattle.pool_rules.specs.declared.report.Report.{Report}
 use Rattle.node_rules.specs.declared.config.Config.{Config}
 use Rattle.node_rules.specs.declared.end.End.{End}
 
--- a round under way: what was taken from the set, the capacity of the first sketch, and what the peer has sent of its own
+-- a round under way: what was taken from the set, the capacity of the first sketch, and the sums that the peer has sent of
+-- its own, which are an opener's alone
 pub record Round : Type 0 where
   pub snapshot : List Member
   pub capacity : ℕ
@@ -24,17 +25,28 @@ pub record Round : Type 0 where
 abbrev pub no_round : Round
 no_round = record { snapshot = []; capacity = 0; sums = [] }
 
--- what a side's machine of rounds keeps: the coefficient of the next round, and how many rounds were begun, modulo 2 ^ 64
+-- what a side's machine of rounds keeps, and an accepter's no more. The level of the connection is how many extensions of a
+-- sketch may be asked for; before the handshake is over it is 1
 pub record Machine : Type 0 where
   pub phase : Phase
+  pub level : ℕ
   pub round : Round
+  pub reports : List Report
+
+-- what an opener keeps of the rounds that it asks for: the coefficient of the next one, and how many were begun, modulo
+-- 2 ^ 64. An accepter asks for none, so there they stay as they were at the beginning
+pub record Requests : Type 0 where
   pub coefficient : ℕ
   pub begun : ℕ
-  pub reports : List Report
+
+-- an opener's machine of rounds
+pub record Initiator : Type 0 where
+  pub machine : Machine
+  pub requests : Requests
 
 -- how many extensions of a sketch may be asked for
 abbrev pub extensions_allowed : Machine → ℕ
-extensions_allowed m = 1
+extensions_allowed m = m.level
 
 -- ids that the peer announced and that aren't asked for yet; ids asked for; ids whose transaction was sent
 pub record Wants : Type 0 where
@@ -42,8 +54,9 @@ pub record Wants : Type 0 where
   pub asked : List Hash32
   pub served : List Hash32
 
--- what the peer's `sendtxrcncl` said
+-- what a `sendtxrcncl` says: the version of reconciliation, and the salt
 pub record Offer : Type 0 where
+  pub version : ℕ
   pub salt : ℕ
 
 -- what was noted of the peer
@@ -61,6 +74,7 @@ pub record Inbox : Type 0 where
 pub record NodeState : Type 0 where
   pub config : Config
   pub machine : Machine
+  pub requests : Requests
   pub set : List Member
   pub pool : List Held
   pub wants : Wants
@@ -75,19 +89,35 @@ pub record NodeView : Type 0 where
   pub outbox : List ℕ
   pub starved : Bool
 
+-- nothing was wanted, asked for or served
+abbrev pub no_wants : Wants
+no_wants = record { wanted = []; asked = []; served = [] }
+
+-- nothing was noted of the peer
+abbrev pub no_peer : Peer
+no_peer = record { relays_by_id = false; offer = None }
+
+abbrev pub first_requests : Requests
+first_requests = record { coefficient = FIRST_COEFFICIENT; begun = 0 }
+
 -- a new node
 abbrev pub opening_state : Config → List Held → NodeState
 opening_state config pool = record {
   config = config;
-  machine = record { phase = phase.Greeting; round = no_round; coefficient = FIRST_COEFFICIENT; begun = 0; reports = [] };
+  machine = record { phase = phase.Greeting; level = 1; round = no_round; reports = [] };
+  requests = first_requests;
   set = [];
   pool = pool;
-  wants = record { wanted = []; asked = []; served = [] };
-  peer = record { relays_by_id = false; offer = None };
+  wants = no_wants;
+  peer = no_peer;
   plain = false;
   inbox = record { unread = []; place = 0 };
   ended = None;
 }
+
+-- the opener's machine of a node
+abbrev pub initiator_of : NodeState → Initiator
+initiator_of s = record { machine = s.machine; requests = s.requests }
 
 -- the peer's salt, where it was noted
 abbrev pub salt_of : Option Offer → ℕ
@@ -109,44 +139,3 @@ lacked s = filter (λ id. not (in_pool s.pool id)) (open_wants s)
 -- how much of the pool's limit is taken: its transactions, and the open wants that it lacks
 abbrev pub taken_room : NodeState → ℕ
 taken_room s = length s.pool + length (lacked s)
-
--- ---- what holds of every node at every moment
-
--- a configuration whose numbers are of their types
-pub record IsConfig (c : Config) : Type 0 where
-  pub magic : IsTrue (are_bytes_of 4 c.magic)
-  pub salt : c.salt < 2 ^ 64
-  pub nonce : c.nonce < 2 ^ 64
-  pub time : IsTrue (fits_signed 63 c.time)
-
--- a member that a node may have in its set: of its pool, with the short id under the key of both salts
-pub record IsMember (keys : KeyPair) (pool : List Held) (m : Member) : Type 0 where
-  pub pooled : IsTrue (in_pool pool m.id)
-  pub short : m ≡ member_of keys m.id
-
--- set and snapshot have no id twice, and members alone
-pub record IsReconciling (s : NodeState) : Type 0 where
-  pub set : IsSet s.set
-  pub snapshot : IsSet s.machine.round.snapshot
-  pub set_members : AllByRecursion (IsMember (node_keys s) s.pool) s.set
-  pub snapshot_members : AllByRecursion (IsMember (node_keys s) s.pool) s.machine.round.snapshot
-
--- no id is wanted or asked for twice, none that is wanted is in the pool, and there is room for all
-pub record IsWanting (s : NodeState) : Type 0 where
-  pub once : Distinct (open_wants s)
-  pub unwanted : AllByRecursion (λ id. IsTrue (not (in_pool s.pool id))) s.wants.wanted
-  pub room : taken_room s ≤ POOL_LIMIT
-
--- numbers are of their types
-pub record IsRanged (s : NodeState) : Type 0 where
-  pub coefficient : s.machine.coefficient < 2 ^ 16
-  pub begun : s.machine.begun < 2 ^ 64
-  pub place : s.inbox.place < 2 ^ 64
-  pub unread : IsTrue (are_bytes s.inbox.unread)
-
-pub record IsNode (s : NodeState) : Type 0 where
-  pub config : IsConfig s.config
-  pub pool : IsPool s.pool
-  pub reconciling : IsReconciling s
-  pub wanting : IsWanting s
-  pub ranged : IsRanged s

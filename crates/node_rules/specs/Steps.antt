@@ -11,10 +11,12 @@ use Rattle.wire_rules.specs.declared.name.Name.{Name}
 use Rattle.wire_rules.specs.declared.name.Name.TheVariants as name
 use Rattle.wire_rules.specs.declared.phase.Phase.{Phase}
 use Rattle.wire_rules.specs.declared.phase.Phase.TheVariants as phase
-use Rattle.node_rules.specs.Stages.{is_idle, waiting}
-use Rattle.node_rules.specs.State.{Inbox, NodeState}
-use Rattle.node_rules.specs.Turns.{Move, Turn, passed, sends, refused, strays, misplaced, moved, getdata_of}
-use Rattle.node_rules.specs.Opener.{with_round, round_request, opener_sketch, ends_barrier, fetching}
+use Rattle.pool_rules.specs.Snapshots.{Member}
+use Rattle.node_rules.specs.Stages.{is_idle}
+use Rattle.node_rules.specs.State.{Inbox, Initiator, NodeState, initiator_of}
+use Rattle.node_rules.specs.Turns.{Move, Response, Turn, passed, sends, refused, strays, misplaced, moved, after_response}
+use Rattle.node_rules.specs.Opener.{Start, round_start, plain_start, opener_sketch}
+use Rattle.node_rules.specs.Barrier.{on_pong}
 use Rattle.node_rules.specs.Accepter.{accepter_reqrecon, accepter_extension, accepter_diff}
 use Rattle.node_rules.specs.Inventory.{on_inv, on_getdata, on_tx, on_notfound}
 use Rattle.node_rules.specs.Handshake.{in_greeting, in_greeted}
@@ -31,40 +33,27 @@ opener_row role.Opener false n s row = moved s row
 opener_row role.Opener true n s row = misplaced s n
 opener_row role.Accepter plain n s row = misplaced s n
 
--- a row of the accepter's machine
-unfoldable pub accepter_row : Role → Bool → Name → NodeState → Result Move End → Turn
-accepter_row role.Accepter false n s row = moved s row
-accepter_row role.Accepter true n s row = misplaced s n
-accepter_row role.Opener plain n s row = misplaced s n
-
--- what is wanted is asked for
-abbrev pub asks : NodeState → NodeState
-asks s = record s {
-  machine = fetching s.machine s.wants.wanted;
-  wants = record s.wants { wanted = []; asked = s.wants.asked ++ s.wants.wanted };
-}
-
--- a pong: by the role, and by whether it ends the round's barrier
-unfoldable pub pong_by : Role → Bool → NodeState → Turn
-pong_by role.Opener true s = sends (asks s) (getdata_of s.wants.wanted)
-pong_by role.Opener false s = passed s
-pong_by role.Accepter ends s = passed s
+-- a row of the accepter's machine, and what is then left of the set
+unfoldable pub accepter_row : Role → Bool → Name → NodeState → List Member → Result Response End → Turn
+accepter_row role.Accepter false n s set row = after_response s set row
+accepter_row role.Accepter true n s set row = misplaced s n
+accepter_row role.Opener plain n s set row = misplaced s n
 
 unfoldable pub relays : NodeState → Message → Turn
 relays s (message.Version v) = strays s name.Version
 relays s message.Verack = strays s name.Verack
 relays s message.WtxidRelay = strays s name.WtxidRelay
 relays s (message.SendTxRcncl version salt) = strays s name.SendTxRcncl
-relays s (message.ReqRecon size q) = accepter_row s.config.role s.plain name.ReqRecon s (accepter_reqrecon s.machine s.set size q)
-relays s (message.Sketch bytes) = opener_row s.config.role s.plain name.Sketch s (opener_sketch s.machine s.set bytes)
-relays s message.ReqSketchExt = accepter_row s.config.role s.plain name.ReqSketchExt s (accepter_extension s.machine s.set)
-relays s (message.ReconcilDiff success asks) = accepter_row s.config.role s.plain name.ReconcilDiff s (accepter_diff s.machine s.set success asks)
+relays s (message.ReqRecon size q) = accepter_row s.config.role s.plain name.ReqRecon s [] (accepter_reqrecon s.machine s.set size q)
+relays s (message.Sketch bytes) = opener_row s.config.role s.plain name.Sketch s (opener_sketch (initiator_of s) s.set bytes)
+relays s message.ReqSketchExt = accepter_row s.config.role s.plain name.ReqSketchExt s s.set (accepter_extension s.machine)
+relays s (message.ReconcilDiff success asks) = accepter_row s.config.role s.plain name.ReconcilDiff s s.set (accepter_diff s.machine success asks)
 relays s (message.Inv es) = on_inv s es
 relays s (message.GetData es) = on_getdata s es
 relays s (message.NotFound es) = on_notfound s es
 relays s (message.Tx tx) = on_tx s tx
 relays s (message.Ping n) = sends s (message.Pong n ∷ [])
-relays s (message.Pong n) = pong_by s.config.role (ends_barrier s.machine n) s
+relays s (message.Pong n) = on_pong s n
 relays s (message.Other command payload) = passed s
 
 unfoldable pub in_its_phase : Phase → NodeState → Message → Turn
@@ -142,13 +131,13 @@ pub record Began : Type 0 where
   pub begun : Bool
   pub turn : Turn
 
-abbrev pub with_machine_round : NodeState → Phase → NodeState
-with_machine_round s next = record s { machine = with_round s.machine next }
+abbrev pub started : NodeState → Start → Turn
+started s x = record { state = record s { machine = x.initiator.machine; requests = x.initiator.requests }; out = x.message ∷ [] }
 
 -- a round begins, by whether the node is plain: then there is no more than its ping
 unfoldable pub round_by : Bool → NodeState → Turn
-round_by false s = sends (with_machine_round s (waiting 0)) (round_request s.machine (length s.set) ∷ [])
-round_by true s = sends (with_machine_round s phase.Barrier) (message.Ping (with_round s.machine phase.Barrier).begun ∷ [])
+round_by false s = started s (round_start (initiator_of s) (length s.set))
+round_by true s = started s (plain_start (initiator_of s))
 
 -- by the end, the role, and whether no round is under way
 unfoldable pub begins_by : Option End → Role → Bool → NodeState → Began

@@ -8,14 +8,19 @@ use Rattle.wire_rules.specs.declared.message.Message.{Message}
 use Rattle.wire_rules.specs.declared.message.Message.TheVariants as message
 use Rattle.wire_rules.specs.declared.name.Name.{Name}
 use Rattle.pool_rules.specs.Snapshots.{Member}
-use Rattle.node_rules.specs.State.{Machine, NodeState, NodeView}
+use Rattle.node_rules.specs.State.{Machine, Initiator, NodeState, NodeView}
 use Rattle.node_rules.specs.declared.end.End.{End}
 use Rattle.node_rules.specs.declared.end.End.TheVariants as end
 
--- a step of a machine of rounds, which may take the set
+-- a step of an opener's machine of rounds, which may take the set
 pub record Move : Type 0 where
-  pub machine : Machine
+  pub initiator : Initiator
   pub set : List Member
+  pub out : List Message
+
+-- a step of a machine of rounds that leaves the rest of its side as it is
+pub record Response : Type 0 where
+  pub machine : Machine
   pub out : List Message
 
 -- a step of a node
@@ -43,10 +48,15 @@ strays s n = refused s (end.Handshake n)
 abbrev pub misplaced : NodeState → Name → Turn
 misplaced s n = refused s (end.Misplaced n s.machine.phase)
 
--- the node as its machine has moved
+-- an opener as its machine has moved
 abbrev pub moved : NodeState → Result Move End → Turn
-moved s (Ok m) = record { state = record s { machine = m.machine; set = m.set }; out = m.out }
+moved s (Ok m) = record { state = record s { machine = m.initiator.machine; requests = m.initiator.requests; set = m.set }; out = m.out }
 moved s (Err e) = refused s e
+
+-- an accepter as its machine has responded, and what is left of its set
+abbrev pub after_response : NodeState → List Member → Result Response End → Turn
+after_response s set (Ok r) = record { state = record s { machine = r.machine; set = set }; out = r.out }
+after_response s set (Err e) = refused s e
 
 -- a caller's view behind a step: the frames of its messages go to the end of the outbox
 abbrev pub after_turn : NodeView → Turn → NodeView

@@ -18,4 +18,7 @@ pub struct Config {
     /// The nonce and the time of its `version`.
     pub nonce: u64,
     pub time: i64,
+    /// The highest version of reconciliation that it offers: 1 or 2. It is how many extensions of a sketch a round may have,
+    /// where the peer offers no less.
+    pub top: u32,
 }
