@@ -1,2 +1,2 @@
-//! The definitions of what a wire tells of its link, in `specs/`. There is no code here.
+//! The definitions of what a wire tells of its link, and a shelf of its contents, in `specs/`. There is no code here.
 #![tactic(auto)]

@@ -15,10 +15,11 @@ use Rattle.pool_rules.specs.declared.limits.TheConstants.{POOL_LIMIT}
 use Rattle.node_rules.specs.Accepter.{accepter_reqrecon, accepter_extension, accepter_diff}
 use Rattle.node_rules.specs.Handshake.{version_by, out_of_place, in_greeting, offer_by, on_wtxidrelay, verack_by, in_greeted, declines}
 use Rattle.node_rules.specs.Inventory.{news, without_announced, inv_by, on_getdata, came, on_held, on_notfound}
-use Rattle.node_rules.specs.Opener.{opener_sketch, ends_barrier}
-use Rattle.node_rules.specs.State.{NodeState, Offer, taken_room}
-use Rattle.node_rules.specs.Steps.{opener_row, accepter_row, pong_by, relays, in_its_phase, takes}
-use Rattle.node_rules.specs.Turns.{Move, Turn, passed, sends, refused, strays, misplaced, moved}
+use Rattle.node_rules.specs.Barrier.{ends_barrier, pong_by}
+use Rattle.node_rules.specs.Opener.{opener_sketch}
+use Rattle.node_rules.specs.State.{NodeState, Offer, initiator_of, taken_room}
+use Rattle.node_rules.specs.Steps.{opener_row, accepter_row, relays, in_its_phase, takes}
+use Rattle.node_rules.specs.Turns.{Move, Response, Turn, passed, sends, refused, strays, misplaced, moved, after_response}
 use Rattle.node_rules.specs.declared.config.Role.{Role}
 use Rattle.node_rules.specs.declared.config.Role.TheVariants as role
 use Rattle.node_rules.specs.declared.end.End.{End}
@@ -52,11 +53,11 @@ in_greeting-grows s (message.Ping n) = grows-same s (passed s) refl
 in_greeting-grows s (message.Pong n) = grows-same s (passed s) refl
 in_greeting-grows s other = out_of_place-grows s (name_of other)
 
-offer_by-grows : (zero again : Bool) (s : NodeState) (salt : ℕ) → Grows s (offer_by zero again s salt)
+offer_by-grows : (zero again : Bool) (s : NodeState) (offer : Offer) → Grows s (offer_by zero again s offer)
 unfolding offer_by
-offer_by-grows true again s salt = grows-same s (offer_by true again s salt) refl
-offer_by-grows false true s salt = grows-same s (offer_by false true s salt) refl
-offer_by-grows false false s salt = grows-same s (offer_by false false s salt) refl
+offer_by-grows true again s offer = grows-same s (offer_by true again s offer) refl
+offer_by-grows false true s offer = grows-same s (offer_by false true s offer) refl
+offer_by-grows false false s offer = grows-same s (offer_by false false s offer) refl
 
 verack_by-grows : (noted : Bool) (offer : Option Offer) (s : NodeState) → Grows s (verack_by noted offer s)
 unfolding verack_by
@@ -67,7 +68,7 @@ verack_by-grows true (Some offer) s = grows-same s (verack_by true (Some offer) 
 in_greeted-grows : (s : NodeState) (m : Message) → Grows s (in_greeted s m)
 unfolding in_greeted
 in_greeted-grows s message.WtxidRelay = grows-same s (on_wtxidrelay s) refl
-in_greeted-grows s (message.SendTxRcncl version salt) = offer_by-grows (version == 0) (is_some s.peer.offer) s salt
+in_greeted-grows s (message.SendTxRcncl version salt) = offer_by-grows (version == 0) (is_some s.peer.offer) s (record { version = version; salt = salt })
 in_greeted-grows s message.Verack = verack_by-grows s.peer.relays_by_id s.peer.offer s
 in_greeted-grows s (message.Ping n) = grows-same s (passed s) refl
 in_greeted-grows s (message.Pong n) = grows-same s (passed s) refl
@@ -83,11 +84,15 @@ opener_row-grows role.Opener false n s row = moved-grows s row
 opener_row-grows role.Opener true n s row = grows-same s (misplaced s n) refl
 opener_row-grows role.Accepter plain n s row = grows-same s (misplaced s n) refl
 
-accepter_row-grows : (r : Role) (plain : Bool) (n : Name) (s : NodeState) (row : Result Move End) → Grows s (accepter_row r plain n s row)
+after_response-grows : (s : NodeState) (set : List Member) (row : Result Response End) → Grows s (after_response s set row)
+after_response-grows s set (Ok r) = grows-same s (after_response s set (Ok r)) refl
+after_response-grows s set (Err e) = grows-same s (refused s e) refl
+
+accepter_row-grows : (r : Role) (plain : Bool) (n : Name) (s : NodeState) (set : List Member) (row : Result Response End) → Grows s (accepter_row r plain n s set row)
 unfolding accepter_row
-accepter_row-grows role.Accepter false n s row = moved-grows s row
-accepter_row-grows role.Accepter true n s row = grows-same s (misplaced s n) refl
-accepter_row-grows role.Opener plain n s row = grows-same s (misplaced s n) refl
+accepter_row-grows role.Accepter false n s set row = after_response-grows s set row
+accepter_row-grows role.Accepter true n s set row = grows-same s (misplaced s n) refl
+accepter_row-grows role.Opener plain n s set row = grows-same s (misplaced s n) refl
 
 pong_by-grows : (r : Role) (ends : Bool) (s : NodeState) → Grows s (pong_by r ends s)
 unfolding pong_by
@@ -117,16 +122,16 @@ relays-grows s (message.Version v) = grows-same s (strays s name.Version) refl
 relays-grows s message.Verack = grows-same s (strays s name.Verack) refl
 relays-grows s message.WtxidRelay = grows-same s (strays s name.WtxidRelay) refl
 relays-grows s (message.SendTxRcncl version salt) = grows-same s (strays s name.SendTxRcncl) refl
-relays-grows s (message.ReqRecon size q) = accepter_row-grows s.config.role s.plain name.ReqRecon s (accepter_reqrecon s.machine s.set size q)
-relays-grows s (message.Sketch bytes) = opener_row-grows s.config.role s.plain name.Sketch s (opener_sketch s.machine s.set bytes)
-relays-grows s message.ReqSketchExt = accepter_row-grows s.config.role s.plain name.ReqSketchExt s (accepter_extension s.machine s.set)
-relays-grows s (message.ReconcilDiff success asks) = accepter_row-grows s.config.role s.plain name.ReconcilDiff s (accepter_diff s.machine s.set success asks)
+relays-grows s (message.ReqRecon size q) = accepter_row-grows s.config.role s.plain name.ReqRecon s [] (accepter_reqrecon s.machine s.set size q)
+relays-grows s (message.Sketch bytes) = opener_row-grows s.config.role s.plain name.Sketch s (opener_sketch (initiator_of s) s.set bytes)
+relays-grows s message.ReqSketchExt = accepter_row-grows s.config.role s.plain name.ReqSketchExt s s.set (accepter_extension s.machine)
+relays-grows s (message.ReconcilDiff success asks) = accepter_row-grows s.config.role s.plain name.ReconcilDiff s s.set (accepter_diff s.machine success asks)
 relays-grows s (message.Inv es) = inv_by-grows (nat_lt POOL_LIMIT (taken_room s + length (news s es))) s.config.role s (without_announced s.set es) (news s es)
 relays-grows s (message.GetData es) = grows-same s (on_getdata s es) refl
 relays-grows s (message.NotFound es) = grows-same s (on_notfound s es) refl
 relays-grows s (message.Tx tx) = on_held-grows s (held tx)
 relays-grows s (message.Ping n) = grows-same s (sends s (message.Pong n ∷ [])) refl
-relays-grows s (message.Pong n) = pong_by-grows s.config.role (ends_barrier s.machine n) s
+relays-grows s (message.Pong n) = pong_by-grows s.config.role (ends_barrier (initiator_of s) n) s
 relays-grows s (message.Other command payload) = grows-same s (passed s) refl
 
 in_its_phase-grows : (p : Phase) (s : NodeState) (m : Message) → Grows s (in_its_phase p s m)

@@ -146,6 +146,10 @@ begins_by None role.Opener false s = record { begun = false; turn = passed s }
 begins_by None role.Accepter idle s = record { begun = false; turn = passed s }
 begins_by (Some e) role idle s = record { begun = false; turn = passed s }
 
+unfoldable pub count_of : Bool → ℕ
+count_of true = 1
+count_of false = 0
+
 -- an opener between rounds begins one
 abbrev pub begins : NodeState → Began
 begins s = begins_by s.ended s.config.role (is_idle s.machine.phase) s

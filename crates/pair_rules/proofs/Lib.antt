@@ -2,4 +2,3 @@ pub mod Samples
 pub mod Runs
 pub mod RoundExample
 pub mod TwoRounds
-pub mod SessionExamples

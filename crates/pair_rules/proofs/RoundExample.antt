@@ -56,7 +56,7 @@ abc_member = record { id = abc.id; short = 0x7d73875b }
 
 -- a node behind the handshake
 abbrev pub introduced : NodeState → ℕ → NodeState
-introduced s salt = record s { peer = record { relays_by_id = true; offer = Some (record { salt = salt }) } }
+introduced s salt = record s { peer = record { relays_by_id = true; offer = Some (record { version = 2; salt = salt }) } }
 
 -- ---- up to the sketch: both get their transaction, the handshake is over, a round is begun and its request delivered
 
@@ -65,14 +65,16 @@ to_the_sketch = event.AddA hello.bytes ∷ event.AddB abc.bytes ∷ drain ++ eve
 
 abbrev waiting_a : NodeState
 waiting_a = record (introduced (new_opener (hello ∷ [])) 2) {
-  machine = record { phase = phase.Waiting; round = no_round; coefficient = 8192; begun = 1; reports = [] };
+  machine = record { phase = phase.Waiting; level = 2; round = no_round; reports = [] };
+  requests = record { coefficient = 8192; begun = 1 };
   set = hello_member ∷ [];
   inbox = record { unread = []; place = 203 };
 }
 
 abbrev sent_b : NodeState
 sent_b = record (introduced (new_accepter (abc ∷ [])) 1) {
-  machine = record { phase = phase.Sent; round = record { snapshot = abc_member ∷ []; capacity = 8; sums = [] }; coefficient = 8192; begun = 0; reports = [] };
+  machine = record { phase = phase.Sent; level = 2; round = record { snapshot = abc_member ∷ []; capacity = 8; sums = [] }; reports = [] };
+  requests = record { coefficient = 8192; begun = 0 };
   inbox = record { unread = []; place = 231 };
 }
 
@@ -127,7 +129,8 @@ opener_report = record { snapshot = hello.id ∷ []; capacity = 8; ending = endi
 
 abbrev answered_a : NodeState
 answered_a = record read_a {
-  machine = record { phase = phase.Barrier; round = no_round; coefficient = 65534; begun = 1; reports = opener_report ∷ [] };
+  machine = record { phase = phase.Barrier; level = 2; round = no_round; reports = opener_report ∷ [] };
+  requests = record { coefficient = 65534; begun = 1 };
   set = [];
 }
 
@@ -148,14 +151,16 @@ accepter_report = record { snapshot = abc.id ∷ []; capacity = 8; ending = endi
 
 abbrev pub last_a : NodeState
 last_a = record (introduced (new_opener (hello ∷ abc ∷ [])) 2) {
-  machine = record { phase = phase.Idle; round = no_round; coefficient = 65534; begun = 1; reports = opener_report ∷ [] };
+  machine = record { phase = phase.Idle; level = 2; round = no_round; reports = opener_report ∷ [] };
+  requests = record { coefficient = 65534; begun = 1 };
   wants = record { wanted = []; asked = []; served = hello.id ∷ [] };
   inbox = record { unread = []; place = 441 };
 }
 
 abbrev pub last_b : NodeState
 last_b = record (introduced (new_accepter (abc ∷ hello ∷ [])) 1) {
-  machine = record { phase = phase.Idle; round = no_round; coefficient = 8192; begun = 0; reports = accepter_report ∷ [] };
+  machine = record { phase = phase.Idle; level = 2; round = no_round; reports = accepter_report ∷ [] };
+  requests = record { coefficient = 8192; begun = 0 };
   wants = record { wanted = []; asked = []; served = abc.id ∷ [] };
   inbox = record { unread = []; place = 444 };
 }

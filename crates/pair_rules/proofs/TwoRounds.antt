@@ -32,14 +32,16 @@ to_first = drain ++ event.Round ∷ event.DeliverAb 24 ∷ event.DeliverAb 4 ∷
 
 abbrev first_a : NodeState
 first_a = record (introduced (new_opener (hello ∷ [])) 2) {
-  machine = record { phase = phase.Waiting; round = no_round; coefficient = 8192; begun = 1; reports = [] };
+  machine = record { phase = phase.Waiting; level = 2; round = no_round; reports = [] };
+  requests = record { coefficient = 8192; begun = 1 };
   set = hello_member ∷ [];
   inbox = record { unread = []; place = 203 };
 }
 
 abbrev first_b : NodeState
 first_b = record (introduced (new_accepter []) 1) {
-  machine = record { phase = phase.Sent; round = record { snapshot = []; capacity = 8; sums = [] }; coefficient = 8192; begun = 0; reports = [] };
+  machine = record { phase = phase.Sent; level = 2; round = record { snapshot = []; capacity = 8; sums = [] }; reports = [] };
+  requests = record { coefficient = 8192; begun = 0 };
   inbox = record { unread = []; place = 231 };
 }
 
@@ -84,7 +86,8 @@ first_report_a = record { snapshot = hello.id ∷ []; capacity = 8; ending = end
 
 abbrev answered_a : NodeState
 answered_a = record first_read {
-  machine = record { phase = phase.Barrier; round = no_round; coefficient = 0; begun = 1; reports = first_report_a ∷ [] };
+  machine = record { phase = phase.Barrier; level = 2; round = no_round; reports = first_report_a ∷ [] };
+  requests = record { coefficient = 0; begun = 1 };
   set = [];
 }
 
@@ -105,14 +108,16 @@ first_report_b = record { snapshot = []; capacity = 8; ending = ending.First; an
 
 abbrev second_a : NodeState
 second_a = record (introduced (new_opener (hello ∷ [])) 2) {
-  machine = record { phase = phase.Waiting; round = no_round; coefficient = 0; begun = 2; reports = first_report_a ∷ [] };
+  machine = record { phase = phase.Waiting; level = 2; round = no_round; reports = first_report_a ∷ [] };
+  requests = record { coefficient = 0; begun = 2 };
   wants = record { wanted = []; asked = []; served = hello.id ∷ [] };
   inbox = record { unread = []; place = 353 };
 }
 
 abbrev second_b : NodeState
 second_b = record (introduced (new_accepter (abc ∷ hello ∷ [])) 1) {
-  machine = record { phase = phase.Sent; round = record { snapshot = abc_member ∷ []; capacity = 8; sums = [] }; coefficient = 8192; begun = 0; reports = first_report_b ∷ [] };
+  machine = record { phase = phase.Sent; level = 2; round = record { snapshot = abc_member ∷ []; capacity = 8; sums = [] }; reports = first_report_b ∷ [] };
+  requests = record { coefficient = 8192; begun = 0 };
   inbox = record { unread = []; place = 407 };
 }
 
@@ -157,7 +162,8 @@ second_report_a = record { snapshot = []; capacity = 8; ending = ending.First; a
 
 abbrev again_a : NodeState
 again_a = record second_read {
-  machine = record { phase = phase.Barrier; round = no_round; coefficient = 0; begun = 2; reports = first_report_a ∷ second_report_a ∷ [] };
+  machine = record { phase = phase.Barrier; level = 2; round = no_round; reports = first_report_a ∷ second_report_a ∷ [] };
+  requests = record { coefficient = 0; begun = 2 };
 }
 
 abbrev second_answered : Effect
@@ -174,14 +180,16 @@ second_report_b = record { snapshot = abc.id ∷ []; capacity = 8; ending = endi
 
 abbrev last_a : NodeState
 last_a = record (introduced (new_opener (hello ∷ abc ∷ [])) 2) {
-  machine = record { phase = phase.Idle; round = no_round; coefficient = 0; begun = 2; reports = first_report_a ∷ second_report_a ∷ [] };
+  machine = record { phase = phase.Idle; level = 2; round = no_round; reports = first_report_a ∷ second_report_a ∷ [] };
+  requests = record { coefficient = 0; begun = 2 };
   wants = record { wanted = []; asked = []; served = hello.id ∷ [] };
   inbox = record { unread = []; place = 530 };
 }
 
 abbrev last_b : NodeState
 last_b = record (introduced (new_accepter (abc ∷ hello ∷ [])) 1) {
-  machine = record { phase = phase.Idle; round = no_round; coefficient = 8192; begun = 0; reports = first_report_b ∷ second_report_b ∷ [] };
+  machine = record { phase = phase.Idle; level = 2; round = no_round; reports = first_report_b ∷ second_report_b ∷ [] };
+  requests = record { coefficient = 8192; begun = 0 };
   wants = record { wanted = []; asked = []; served = abc.id ∷ [] };
   inbox = record { unread = []; place = 530 };
 }

@@ -1,4 +1,9 @@
 pub mod World
 pub mod Rounds
 pub mod Headline
-pub mod Session
+pub mod Reports
+pub mod Announcements
+pub mod Gains
+pub mod Ends
+pub mod Messages
+pub mod Deliveries

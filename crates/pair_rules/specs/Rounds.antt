@@ -9,6 +9,7 @@ use Rattle.pool_rules.specs.Pools.{in_pool}
 use Rattle.pool_rules.specs.Snapshots.{Member, Apart, members, gap}
 use Rattle.pool_rules.specs.declared.report.Ending.TheVariants as ending
 use Rattle.pool_rules.specs.declared.report.Report.{Report}
+use Rattle.node_rules.specs.Outcomes.{announcement}
 use Rattle.node_rules.specs.Stages.{extensions_in, capacity_after}
 use Rattle.node_rules.specs.State.{NodeState, open_wants}
 use Rattle.pair_rules.specs.World.{World}
@@ -20,6 +21,15 @@ pair_keys w = keys_of w.a.config.salt w.b.config.salt
 -- what a report's round took of its side's set
 abbrev pub snapshot_of : KeyPair → Report → List Member
 snapshot_of keys r = members keys r.snapshot
+
+-- what a side announces of a round, by the extensions of the sketch that answered it: what was set aside and what was answered;
+-- or all, where the round fell back
+unfoldable pub announced_by : Option ℕ → KeyPair → Report → List Hash32
+announced_by (Some n) keys r = announcement (snapshot_of keys r) r.answered
+announced_by None keys r = r.snapshot
+
+abbrev pub announced_of : KeyPair → Report → List Hash32
+announced_of keys r = announced_by (extensions_in r.ending) keys r
 
 unfoldable pub capacity_by : Option ℕ → ℕ → ℕ
 capacity_by (Some n) c = capacity_after c n
@@ -65,4 +75,4 @@ pub record IsFinished (w : World) : Type 0 where
   pub quiet_a : IsQuiet w.a
   pub quiet_b : IsQuiet w.b
   pub rounds : EachRound (λ ra rb. Fits (pair_keys w) ra rb → Holds w ra rb) w.a.machine.reports w.b.machine.reports
-  pub begun : w.a.machine.begun ≡ length w.a.machine.reports % 2 ^ 64
+  pub begun : w.a.requests.begun ≡ length w.a.machine.reports % 2 ^ 64

@@ -1,5 +1,5 @@
 -- Two nodes, the bytes on the wires between them, and what happens to them. The wires lose nothing and keep the order.
-use Rattle.std.specs.Prelude.{◌≡◌, ℕ, zero, suc, ◌+◌, ◌-◌, ◌^◌, ◌||◌, ◌&&◌, is_some, Bool, true, false, IsTrue, List, [], ◌∷◌, ◌++◌, length, take, drop}
+use Rattle.std.specs.Prelude.{◌≡◌, ℕ, zero, suc, ◌+◌, ◌-◌, ◌^◌, ◌||◌, ◌&&◌, min, is_some, Bool, true, false, IsTrue, List, [], ◌∷◌, ◌++◌, length, take, drop}
 use Rattle.std.specs.List.{list_all}
 use Rattle.std.specs.declared.option.Option.{Option}
 use Rattle.id_rules.specs.Bytes.{are_bytes, is_tx_length}
@@ -8,7 +8,8 @@ use Rattle.wire_rules.specs.declared.message.Message.{Message}
 use Rattle.pool_rules.specs.Pools.{Held, IsPool}
 use Rattle.node_rules.specs.Additions.{Addition, adds}
 use Rattle.node_rules.specs.Handshake.{opening_messages}
-use Rattle.node_rules.specs.State.{NodeState, IsConfig, opening_state}
+use Rattle.node_rules.specs.Invariant.{IsConfig}
+use Rattle.node_rules.specs.State.{NodeState, opening_state}
 use Rattle.node_rules.specs.Steps.{receives, begins}
 use Rattle.node_rules.specs.Turns.{Turn}
 use Rattle.node_rules.specs.declared.added.Added.{Added}
@@ -28,7 +29,8 @@ pub record World : Type 0 where
   pub ab : List ℕ
   pub ba : List ℕ
 
--- a world, the messages that each side has sent, and how many additions found no room
+-- a world, the messages that each side has sent in the run, and how many additions found no room, up to 2 ^ 64 - 1, where the
+-- count stays. What new nodes have to send is on the wires before a run, so no run sends it
 pub record Effect : Type 0 where
   pub world : World
   pub by_a : List Message
@@ -43,7 +45,7 @@ followed first second = record {
   world = second.world;
   by_a = first.by_a ++ second.by_a;
   by_b = first.by_b ++ second.by_b;
-  full = first.full + second.full;
+  full = min (first.full + second.full) (2 ^ 64 - 1);
 }
 
 -- a step of a side: the frames of its messages go to the end of its wire

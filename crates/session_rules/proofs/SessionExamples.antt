@@ -1,5 +1,5 @@
 -- Worked examples of sessions: what the pieces of a peer make of a new node.
-use Rattle.std.proofs.Common.{◌≡◌, ℕ, List, [], ◌∷◌, ◌++◌, refl, true, false, Some, length, take, drop}
+use Rattle.std.proofs.Common.{◌≡◌, ℕ, List, [], ◌∷◌, ◌++◌, refl, true, false, Some, length, take, drop, lit<, lit≤}
 use Rattle.id_rules.proofs.Samples.{from_digits}
 use Rattle.std.specs.Prelude.{codes}
 use Rattle.wire_rules.specs.Layout.{on_wire}
@@ -9,8 +9,8 @@ use Rattle.wire_rules.specs.declared.phase.Phase.TheVariants as phase
 use Rattle.wire_rules.proofs.Samples.{magic}
 use Rattle.node_rules.specs.declared.end.End.TheVariants as end
 use Rattle.node_rules.proofs.Samples.{new_opener, new_accepter, introduced}
-use Rattle.pair_rules.specs.Session.{Session, SentBefore, session_start, takes_pieces, is_done}
-use Rattle.pair_rules.proofs.Samples.{sessioning}
+use Rattle.session_rules.specs.Session.{Session, AreInTime, session_start, takes_pieces, is_done}
+use Rattle.session_rules.proofs.Samples.{sessioning}
 
 -- a new opener has given its version, of 119 bytes, and a new accepter nothing
 opener_gives : length (session_start (new_opener [])).given ≡ 119
@@ -66,7 +66,7 @@ ended_round : is_done false 1 (takes_pieces 1 (session_start (new_opener [])) (c
 unfolding sessioning
 ended_round = refl
 
--- what was sent before each piece: the version before the first, and no more before the second
-prompt : SentBefore 1 (session_start (new_opener [])) (record { bytes = take 100 (on_wire magic (introduced 2)); sent_before = 119 } ∷ [])
+-- what was sent before the first piece: the version, and no more
+in_time : AreInTime 1 (session_start (new_opener [])) (record { bytes = take 100 (on_wire magic (introduced 2)); sent_before = 119 } ∷ [])
 unfolding sessioning
-prompt = (refl, tt)
+in_time = (record { sent = refl; unended = refl; undone = refl; least = lit< tt; most = lit≤ tt }, tt)
