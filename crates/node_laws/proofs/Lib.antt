@@ -1,3 +1,3 @@
-pub mod Growing
-pub mod GrowingSteps
+pub mod Rows
+pub mod LaterSteps
 pub mod Ended

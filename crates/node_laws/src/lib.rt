@@ -1,24 +1,34 @@
 //! Laws of the steps of a node, in `proofs/`, each stated by a function.
 #![tactic(auto)]
 
-ghost use Rattle.std.specs.Prelude.{◌≡◌, ℕ, false, Some, List};
+ghost use Rattle.std.specs.Prelude.{◌≡◌, ℕ, false, Some, None, List};
 ghost use Rattle.wire_rules.specs.declared.message.Message.{Message};
 ghost use Rattle.node_rules.specs.Additions.{adds};
-ghost use Rattle.node_rules.specs.State.{NodeState};
-ghost use Rattle.node_rules.specs.Steps.{takes, receives, begins};
-ghost use Rattle.node_rules.specs.Turns.{passed};
+ghost use Rattle.node_rules.specs.State.{Inbox, NodeState};
+ghost use Rattle.node_rules.specs.Steps.{takes, takes_all, receives, begins, with_inbox};
+ghost use Rattle.node_rules.specs.Turns.{passed, refused};
 ghost use Rattle.node_rules.specs.declared.added.Added.{Added};
 ghost use Rattle.node_rules.specs.declared.added.Added.TheVariants as added;
 ghost use Rattle.node_rules.specs.declared.end.End.{End};
-ghost use Rattle.node_laws.specs.Pools.{Grows};
+ghost use Rattle.node_laws.specs.Inboxes.{in_inbox};
+ghost use Rattle.node_laws.specs.Later.{IsLater};
 
-/// Nothing leaves a node's pool, and nothing in it changes its place: by a message, a piece of bytes, an addition, or
-/// the start of a round. It does nothing when it runs: its contract is the theorem.
-pub fn nothing_leaves_a_pool()
-    ensures by_message { (s : NodeState) (m : Message) → Grows s (takes s m) }
-    ensures by_piece { (s : NodeState) (piece : List ℕ) → Grows s (receives s piece) }
-    ensures by_addition { (s : NodeState) (tx : List ℕ) → Grows s (adds s tx).turn }
-    ensures by_round { (s : NodeState) → Grows s (begins s).turn }
+/// Nothing leaves a node's pool or its reports, nothing in them changes its place, and the configuration stays: by a
+/// message, by many, by a piece of bytes, an addition, or the start of a round. It does nothing when it runs: its contract
+/// is the theorem.
+pub fn nodes_only_grow()
+    ensures by_message { (s : NodeState) (m : Message) → IsLater s (takes s m).state }
+    ensures by_messages { (s : NodeState) (ms : List Message) → IsLater s (takes_all s ms).state }
+    ensures by_piece { (s : NodeState) (piece : List ℕ) → IsLater s (receives s piece).state }
+    ensures by_addition { (s : NodeState) (tx : List ℕ) → IsLater s (adds s tx).turn.state }
+    ensures by_round { (s : NodeState) → IsLater s (begins s).turn.state }
+{}
+
+/// What has been received of the messages behind one has no part in its step, and a step in which a node ends changes
+/// nothing but that, and sends nothing. It does nothing when it runs: its contract is the theorem.
+pub fn messages_are_taken_whole()
+    ensures inbox { (s : NodeState) (i : Inbox) (m : Message) → takes (with_inbox s i) m ≡ in_inbox (takes s m) i }
+    ensures refusal { (s : NodeState) (m : Message) (e : End) → s.ended ≡ None → (takes s m).state.ended ≡ Some e → takes s m ≡ refused s e }
 {}
 
 /// A node that has ended takes no step: pieces and additions leave it as it is, and no round begins. It does nothing
