@@ -1,9 +1,7 @@
 pub mod Parts
-pub mod Fronts
 pub mod Readers
 pub mod Messages
 pub mod Sound
-pub mod Streams
 pub mod Taken
 pub mod TakenLists
 pub mod Said

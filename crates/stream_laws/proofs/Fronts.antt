@@ -122,7 +122,7 @@ front_of-frame magic place f more four sound =
     enough = le_holds (length f.payload) (length (f.payload ++ more)) (subst (λ n. length f.payload ≤ n) (sym (length-append f.payload more)) (omega arith))
 
 -- fewer bytes than a header has are partial
-short_front : (magic : List ℕ) (place : ℕ) (bytes : List ℕ) → length bytes < 24 → front_of magic place bytes ≡ Partial
+pub short_front : (magic : List ℕ) (place : ℕ) (bytes : List ℕ) → length bytes < 24 → front_of magic place bytes ≡ Partial
 unfolding by_length
 short_front magic place bytes h = ap (λ b. by_length b magic place bytes) (lt-leb 24 (length bytes) h)
 

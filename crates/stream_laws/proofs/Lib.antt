@@ -1,0 +1,9 @@
+pub mod Offsets
+pub mod Fronts
+pub mod Stays
+pub mod Found
+pub mod Items
+pub mod FrameSteps
+pub mod FrameLaws
+pub mod MessageSteps
+pub mod StreamLaws

@@ -1,0 +1,158 @@
+-- Messages are items that are read one after another.
+use Rattle.std.proofs.Common.{◌≡◌, ℕ, zero, suc, ◌+◌, ◌-◌, ◌^◌, ◌<◌, true, List, [], ◌++◌, Some, None, Result, Ok, Err, length, drop, refl, sym, ap, subst, ◌∙◌, arith, lit<}
+use Rattle.id_rules.specs.Bytes.{are_bytes}
+use Rattle.wire_rules.specs.Layout.{frame_bytes, frame_of, spelled}
+use Rattle.wire_rules.specs.Limits.{IsMessage}
+use Rattle.wire_rules.specs.Reading.{message_of}
+use Rattle.wire_rules.specs.Stream.{AtFrame, AtPayload, Front, Partial, Whole, Faulty, OfFrame, OfPayload, Stop, StopsAt, Stream, StreamFault, StreamRead, behind, front_of, later, read_front, read_message, read_stream, stream_of}
+use Rattle.wire_rules.specs.declared.faults.PayloadFault.{PayloadFault}
+use Rattle.wire_rules.specs.declared.frame.Frame.{Frame}
+use Rattle.wire_rules.specs.declared.message.Message.{Message}
+use Rattle.wire_laws.proofs.Messages.{message_of-frame_of}
+use Rattle.wire_laws.proofs.Said.{message_of-said}
+use Rattle.wire_laws.proofs.Sound.{frame_of-sound}
+use Rattle.stream_laws.proofs.Fronts.{front_of-frame, frame-length, short_front}
+use Rattle.stream_laws.proofs.Stays.{partial-anywhere}
+use Rattle.stream_laws.proofs.Found.{bytes_cut, front-found, whole-size}
+use Rattle.stream_laws.proofs.FrameSteps.{whole-stays}
+use Rattle.stream_laws.proofs.Items.{Step, Wait, Take, Halt, Reading, IsStep, IsTaken, IsFound, IsRead, ended, stepped, read_items, reading, read-one, read-same, read-all}
+
+-- ---- a front as a step
+
+abbrev pub by_payload : Result Message PayloadFault → ℕ → Step Message StreamFault
+by_payload (Ok m) n = Take m n
+by_payload (Err fault) n = Halt (OfPayload fault)
+
+abbrev pub step_of : Front → Step Message StreamFault
+step_of Partial = Wait
+step_of (Whole f n) = by_payload (message_of f) n
+step_of (Faulty fault) = Halt (OfFrame fault)
+
+abbrev pub message_step : List ℕ → ℕ → List ℕ → Step Message StreamFault
+message_step magic p bytes = step_of (front_of magic p bytes)
+
+payload_wait : (r : Result Message PayloadFault) (n : ℕ) → by_payload r n ≡ Wait → ⊥
+payload_wait (Ok m) n e = absurd (cc)
+payload_wait (Err fault) n e = absurd (cc)
+
+payload_take : (r : Result Message PayloadFault) (k n : ℕ) (m : Message) → by_payload r k ≡ Take m n → (r ≡ Ok m) × (k ≡ n)
+payload_take (Ok x) k n m e = let same : x ≡ m = cc in let size : k ≡ n = cc in (ap (λ y. Ok y) same, size)
+payload_take (Err fault) k n m e = absurd (cc)
+
+is_partial : (x : Front) → step_of x ≡ Wait → x ≡ Partial
+is_partial Partial e = refl
+is_partial (Whole f n) e = absurd (payload_wait (message_of f) n e)
+is_partial (Faulty fault) e = absurd (cc)
+
+-- a message is a whole frame's
+is_message : (x : Front) (m : Message) (n : ℕ) → step_of x ≡ Take m n → (f : Frame) × (x ≡ Whole f n) × (message_of f ≡ Ok m)
+is_message Partial m n e = absurd (cc)
+is_message (Whole f k) m n e = let take = payload_take (message_of f) k n m e in (f, ap (Whole f) take.1, take.0)
+is_message (Faulty fault) m n e = absurd (cc)
+
+payload_halt : (magic : List ℕ) (p : ℕ) (bytes : List ℕ) (f : Frame) (n : ℕ) (r : Result Message PayloadFault) (fault : StreamFault) → front_of magic p bytes ≡ Whole f n → message_of f ≡ r
+    → by_payload r n ≡ Halt fault → StopsAt magic p bytes fault
+payload_halt magic p bytes f n (Ok m) fault front e halt = absurd (cc)
+payload_halt magic p bytes f n (Err x) fault front e halt = let same : OfPayload x ≡ fault = cc in subst (StopsAt magic p bytes) same (AtPayload f n x front e)
+
+stops_by : (magic : List ℕ) (p : ℕ) (bytes : List ℕ) (x : Front) (fault : StreamFault) → front_of magic p bytes ≡ x → step_of x ≡ Halt fault → StopsAt magic p bytes fault
+stops_by magic p bytes Partial fault front halt = absurd (cc)
+stops_by magic p bytes (Whole f n) fault front halt = payload_halt magic p bytes f n (message_of f) fault front refl halt
+stops_by magic p bytes (Faulty x) fault front halt = let same : OfFrame x ≡ fault = cc in subst (StopsAt magic p bytes) same (AtFrame x front)
+
+halts : (magic : List ℕ) (p : ℕ) (bytes : List ℕ) (fault : StreamFault) → StopsAt magic p bytes fault → message_step magic p bytes ≡ Halt fault
+halts magic p bytes (OfFrame fault) (AtFrame stop front) = ap step_of front
+halts magic p bytes (OfPayload fault) (AtPayload f n stop front e) = ap step_of front ∙ ap (λ r. by_payload r n) e
+
+abbrev pub as_read : Reading Message StreamFault → StreamRead
+as_read r = record { messages = r.items; place = r.offset; rest = r.unread; stop = r.stop }
+
+module _ (magic : List ℕ) where
+  message-steps : IsStep (message_step magic)
+  message-steps = record {
+    none = λ p. ap step_of (short_front magic p [] (lit< tt));
+    size = λ p bytes m n e. let is = is_message (front_of magic p bytes) m n e in let size = whole-size magic p bytes is.0 n is.1 in let some = size.0 in (omega arith, size.1);
+    stays = λ p bytes more m n e. let is = is_message (front_of magic p bytes) m n e in ap step_of (whole-stays magic p bytes more is.0 n is.1) ∙ ap (λ r. by_payload r n) is.2;
+  }
+
+  message-taken : length magic ≡ 4 → IsTaken (message_step magic) (spelled magic) IsMessage
+  message-taken four p m more sent =
+      let f = frame_of m in
+      let sound = frame_of-sound m sent in
+      ap step_of (front_of-frame magic p f more four sound)
+      ∙ (ap (λ r. by_payload r (24 + length f.payload)) (message_of-frame_of m sent)
+      ∙ ap (Take m) (sym (frame-length magic f four sound)))
+
+  message-found : IsFound (message_step magic) (spelled magic) IsMessage
+  message-found p bytes m n sound e =
+      let is = is_message (front_of magic p bytes) m n e in
+      let first = front-found magic p bytes is.0 n sound is.1 in
+      let said = message_of-said is.0 m first.sound is.2 in
+      (said.sent, first.whole ∙ ap (λ f. frame_bytes magic f ++ drop n bytes) said.frame, (bytes_cut n bytes sound).1)
+
+  -- ---- a stream read from its front
+
+  one_message : (r : Result Message PayloadFault) (n p : ℕ) (bytes : List ℕ) (f : ℕ → List ℕ → StreamRead) (g : ℕ → List ℕ → Reading Message StreamFault) → ((q : ℕ) (rest : List ℕ) → f q rest ≡ as_read (g q rest))
+      → read_message r n p bytes f ≡ as_read (stepped (by_payload r n) p bytes g)
+  unfolding read_message
+  one_message (Ok m) n p bytes f g same = ap (behind m) (same (later p n) (drop n bytes))
+  one_message (Err fault) n p bytes f g same = refl
+
+  one_front : (x : Front) (p : ℕ) (bytes : List ℕ) (f : ℕ → List ℕ → StreamRead) (g : ℕ → List ℕ → Reading Message StreamFault) → ((q : ℕ) (rest : List ℕ) → f q rest ≡ as_read (g q rest))
+      → read_front x p bytes f ≡ as_read (stepped (step_of x) p bytes g)
+  unfolding read_front
+  one_front Partial p bytes f g same = refl
+  one_front (Whole frame n) p bytes f g same = one_message (message_of frame) n p bytes f g same
+  one_front (Faulty fault) p bytes f g same = refl
+
+  stream-read : (n p : ℕ) (bytes : List ℕ) → read_stream n magic p bytes ≡ as_read (read_items (message_step magic) n p bytes)
+  unfolding read_stream read_items
+  stream-read zero p bytes = refl
+  stream-read (suc n) p bytes = one_front (front_of magic p bytes) p bytes (read_stream n magic) (read_items (message_step magic) n) (stream-read n)
+
+  pub stream_of-reading : (bytes : List ℕ) → stream_of magic bytes ≡ as_read (reading (message_step magic) 0 bytes)
+  stream_of-reading bytes = stream-read (length bytes) 0 bytes
+
+  -- ---- what messages and a rest are by the relations
+
+  abbrev pub Parted : ℕ → List ℕ → Reading Message StreamFault → Type 0
+  Parted p bytes r = IsRead (message_step magic) (spelled magic) IsMessage p bytes r
+
+  pub parted-one : length magic ≡ 4 → (p : ℕ) (bytes : List ℕ) (r : Reading Message StreamFault) → p < 2 ^ 64 → Parted p bytes r → reading (message_step magic) p bytes ≡ r
+  parted-one four = read-one (message_step magic) (spelled magic) IsMessage message-steps (message-taken four)
+
+  pub parted-same : length magic ≡ 4 → (p : ℕ) (bytes : List ℕ) (r s : Reading Message StreamFault) → Parted p bytes r → Parted p bytes s → r ≡ s
+  parted-same four = read-same (message_step magic) (spelled magic) IsMessage message-steps (message-taken four)
+
+  pub parted-all : (p : ℕ) (bytes : List ℕ) → p < 2 ^ 64 → are_bytes bytes ≡ true → Parted p bytes (reading (message_step magic) p bytes)
+  parted-all = read-all (message_step magic) (spelled magic) IsMessage message-steps message-found
+
+  pub stream-parted : (p : ℕ) (bytes : List ℕ) (ms : List Message) (rest : List ℕ) → Stream magic bytes ms rest
+      → Parted p bytes (record { items = ms; offset = later p (length bytes - length rest); unread = rest; stop = None })
+  stream-parted p bytes ms rest stream = record {
+    whole = stream.whole;
+    each = stream.each;
+    offset = refl;
+    ends = ap step_of (partial-anywhere magic 0 (later p (length bytes - length rest)) rest stream.partial.front);
+  }
+
+  pub parted-stream : (p : ℕ) (bytes : List ℕ) (r : Reading Message StreamFault) → Parted p bytes r → r.stop ≡ None → Stream magic bytes r.items r.unread
+  parted-stream p bytes r parted e = record {
+    whole = parted.whole;
+    each = parted.each;
+    partial = record { front = partial-anywhere magic r.offset 0 r.unread (is_partial (front_of magic r.offset r.unread) (parted.ends ∙ ap ended e)) };
+  }
+
+  pub stop-parted : (p : ℕ) (bytes : List ℕ) (ms : List Message) (fault : StreamFault) → (s : Stop magic p bytes ms fault)
+      → Parted p bytes (record { items = ms; offset = later p (length bytes - length s.rest); unread = s.rest; stop = Some fault })
+  stop-parted p bytes ms fault s = record { whole = s.whole; each = s.each; offset = refl; ends = halts magic (later p (length bytes - length s.rest)) s.rest fault s.faulty }
+
+  pub parted-stop : (p : ℕ) (bytes : List ℕ) (r : Reading Message StreamFault) (fault : StreamFault) → Parted p bytes r → r.stop ≡ Some fault → Stop magic p bytes r.items fault
+  parted-stop p bytes r fault parted e =
+      let at = later p (length bytes - length r.unread) in
+      record {
+        rest = r.unread;
+        whole = parted.whole;
+        each = parted.each;
+        faulty = stops_by magic at r.unread (front_of magic at r.unread) fault refl (subst (λ q. message_step magic q r.unread ≡ Halt fault) parted.offset (parted.ends ∙ ap ended e));
+      }
