@@ -1,3 +1,4 @@
 pub mod Rows
 pub mod LaterSteps
 pub mod Ended
+pub mod Handling
