@@ -21,7 +21,7 @@ use Rattle.node_laws.proofs.Ended.{receives-ended}
 
 -- ---- one frame
 
-abbrev first_front : NodeState → Front
+abbrev pub first_front : NodeState → Front
 first_front s = front_of s.config.magic s.inbox.place s.inbox.unread
 
 -- a message takes nothing from what was received behind it

@@ -2,3 +2,4 @@ pub mod Rows
 pub mod LaterSteps
 pub mod Ended
 pub mod Handling
+pub mod Streaming

@@ -7,3 +7,4 @@ pub mod FrameSteps
 pub mod FrameLaws
 pub mod MessageSteps
 pub mod StreamLaws
+pub mod Few
