@@ -1,6 +1,6 @@
 -- The messages that stand whole in what a node has received are handled one by one, however many of them may be.
-use Rattle.std.proofs.Common.{◌≡◌, ℕ, zero, suc, ◌+◌, ◌^◌, ◌<◌, ◌≤◌, List, [], ◌∷◌, ◌++◌, length, drop, Option, Some, None, Result, Ok, Err, refl, sym, ap, subst, ◌∙◌, arith}
-use Rattle.std.proofs.lemmas.List.{length-append, length-drop, drop-append-le, append_assoc, append-nil}
+use Rattle.std.proofs.Common.{◌≡◌, ℕ, zero, suc, ◌<◌, ◌≤◌, List, [], ◌++◌, length, Option, Some, None, Result, Ok, Err, refl, sym, ap, subst, ◌∙◌, arith}
+use Rattle.std.proofs.lemmas.List.{length-drop, drop-append-le, append_assoc, append-nil}
 use Rattle.wire_rules.specs.Reading.{message_of}
 use Rattle.wire_rules.specs.Stream.{Front, Partial, Whole, Faulty, Unfinished, front_of, later}
 use Rattle.wire_rules.specs.declared.faults.PayloadFault.{PayloadFault}
@@ -11,12 +11,10 @@ use Rattle.stream_laws.proofs.Found.{whole-size}
 use Rattle.stream_laws.proofs.Stays.{front-stays, partial-anywhere}
 use Rattle.node_rules.specs.State.{Inbox, NodeState}
 use Rattle.node_rules.specs.Steps.{takes, goes_on, followed, at_message, at_front, handles, handled, dropped, settles, with_inbox, with_piece, receives_in, receives, read_past}
-use Rattle.node_rules.specs.Turns.{Turn, passed, refused}
+use Rattle.node_rules.specs.Turns.{Turn, passed}
 use Rattle.node_rules.specs.declared.end.End.{End}
-use Rattle.node_rules.specs.declared.end.End.TheVariants as end
 use Rattle.node_laws.specs.Inboxes.{in_inbox}
 use Rattle.node_laws.proofs.Rows.{takes-step}
-use Rattle.node_laws.proofs.LaterSteps.{handles-later}
 use Rattle.node_laws.proofs.Ended.{receives-ended}
 
 -- ---- one frame

@@ -3,3 +3,5 @@ pub mod LaterSteps
 pub mod Ended
 pub mod Handling
 pub mod Streaming
+pub mod NewIds
+pub mod Starving

@@ -1,14 +1,11 @@
 -- What a node makes of the messages that stand whole in what it has received, and of a fault behind them.
-use Rattle.std.proofs.Common.{◌≡◌, ℕ, ◌+◌, ◌-◌, ◌^◌, ◌<◌, List, [], ◌∷◌, ◌++◌, length, drop, Option, Some, None, Result, Ok, Err, refl, sym, ap, subst, ◌∙◌, arith}
+use Rattle.std.proofs.Common.{◌≡◌, ℕ, ◌+◌, ◌-◌, ◌^◌, ◌<◌, List, [], ◌∷◌, ◌++◌, length, drop, Option, Some, None, refl, sym, ap, subst, ◌∙◌, arith}
 use Rattle.std.specs.List.{AllByRecursion}
 use Rattle.std.proofs.lemmas.List.{length-append, append_assoc, append-nil}
 use Rattle.wire_rules.specs.Layout.{frame_bytes, frame_of, spelled, on_wire}
 use Rattle.wire_rules.specs.Limits.{IsMessage}
-use Rattle.wire_rules.specs.Reading.{message_of}
-use Rattle.wire_rules.specs.Stream.{Front, Partial, Whole, Faulty, Unfinished, Stream, Stop, StopsAt, AtFrame, AtPayload, StreamFault, OfFrame, OfPayload, front_of, later}
-use Rattle.wire_rules.specs.declared.faults.PayloadFault.{PayloadFault}
+use Rattle.wire_rules.specs.Stream.{Partial, Whole, Unfinished, Stream, Stop, StopsAt, AtFrame, AtPayload, StreamFault, OfFrame, OfPayload, front_of, later}
 use Rattle.wire_rules.specs.declared.frame.Frame.{Frame}
-use Rattle.wire_rules.specs.declared.frame.FrameFault.{FrameFault}
 use Rattle.wire_rules.specs.declared.message.Message.{Message}
 use Rattle.wire_laws.proofs.Messages.{message_of-frame_of}
 use Rattle.wire_laws.proofs.Parts.{drop_front}
@@ -18,9 +15,8 @@ use Rattle.stream_laws.proofs.Offsets.{later-none, later-later, later-low}
 use Rattle.stream_laws.proofs.Stays.{partial-anywhere}
 use Rattle.node_rules.specs.State.{Inbox, NodeState}
 use Rattle.node_rules.specs.Steps.{takes, takes_all, goes_on, followed, at_message, at_front, handled, dropped, settles, with_inbox, with_piece, receives_in, receives, read_past}
-use Rattle.node_rules.specs.Turns.{Turn, passed, refused}
+use Rattle.node_rules.specs.Turns.{Turn, refused}
 use Rattle.node_rules.specs.declared.end.End.{End}
-use Rattle.node_rules.specs.declared.end.End.TheVariants as end
 use Rattle.node_laws.specs.Inboxes.{in_inbox}
 use Rattle.node_laws.specs.Streams.{IsTakenAs, end_for, takes_to_fault}
 use Rattle.node_laws.proofs.Rows.{takes-step}
@@ -164,12 +160,13 @@ fault_behind : (s : NodeState) (t : Turn) (i : Inbox) (f : StreamFault) → t.st
 unfolding at_front at_message end_for
 fault_behind s t i (OfFrame f) c (AtFrame stop front) =
     (i, ap (followed t) (handled-next (with_inbox t.state i) ∙ ap (λ x. at_front x (with_inbox t.state i) handled) (ap (λ c. front_of c.magic i.place i.unread) c ∙ front)))
-fault_behind s t i (OfPayload f) c (AtPayload frame size stop front wrong) =
-    ((read_past (with_inbox t.state i) size).inbox,
-    ap (followed t)
-    (handled-next (with_inbox t.state i)
-    ∙ (ap (λ x. at_front x (with_inbox t.state i) handled) (ap (λ c. front_of c.magic i.place i.unread) c ∙ front)
-    ∙ ap (λ r. at_message r (read_past (with_inbox t.state i) size) handled) wrong)))
+fault_behind s t i (OfPayload f) c (AtPayload frame size stop front wrong) = (
+  (read_past (with_inbox t.state i) size).inbox,
+  ap (followed t)
+      (handled-next (with_inbox t.state i)
+      ∙ (ap (λ x. at_front x (with_inbox t.state i) handled) (ap (λ c. front_of c.magic i.place i.unread) c ∙ front)
+      ∙ ap (λ r. at_message r (read_past (with_inbox t.state i) size) handled) wrong)),
+)
 
 fault_by : (s : NodeState) (t u : Turn) (i : Inbox) (f : StreamFault) (e : Option End) → t.state.ended ≡ e
     → ((x : End) → t.state.ended ≡ Some x → (j : Inbox) × (u ≡ in_inbox t j))

@@ -1,17 +1,25 @@
 //! Laws of the steps of a node, in `proofs/`, each stated by a function.
 #![tactic(auto)]
 
-ghost use Rattle.std.specs.Prelude.{◌≡◌, ℕ, false, Some, None, List};
+ghost use Rattle.std.specs.Prelude.{◌≡◌, ◌||◌, ℕ, ◌+◌, ◌^◌, ◌<◌, ◌≤◌, Bool, true, false, Some, None, List, [], ◌++◌, length};
+ghost use Rattle.base_types.specs.declared.lists.Hash32.{Hash32};
+ghost use Rattle.wire_rules.specs.Layout.{on_wire};
+ghost use Rattle.wire_rules.specs.Stream.{Stream, StreamFault, Stop, Unfinished, front_of, later};
+ghost use Rattle.wire_rules.specs.declared.limits.TheConstants.{HEADER_LEN, PAYLOAD_LIMIT};
 ghost use Rattle.wire_rules.specs.declared.message.Message.{Message};
 ghost use Rattle.node_rules.specs.Additions.{adds};
-ghost use Rattle.node_rules.specs.State.{Inbox, NodeState};
-ghost use Rattle.node_rules.specs.Steps.{takes, takes_all, receives, begins, with_inbox};
+ghost use Rattle.pool_rules.specs.Pools.{Held, same_id, without};
+ghost use Rattle.node_rules.specs.Inventory.{new_ids};
+ghost use Rattle.node_rules.specs.Memory.{IsStarvedIn, view_behind_piece, view_behind_addition, view_behind_start};
+ghost use Rattle.node_rules.specs.State.{Inbox, NodeState, NodeView};
+ghost use Rattle.node_rules.specs.Steps.{takes, takes_all, at_front, handles, handled, followed, receives, begins, with_inbox};
 ghost use Rattle.node_rules.specs.Turns.{passed, refused};
 ghost use Rattle.node_rules.specs.declared.added.Added.{Added};
 ghost use Rattle.node_rules.specs.declared.added.Added.TheVariants as added;
 ghost use Rattle.node_rules.specs.declared.end.End.{End};
 ghost use Rattle.node_laws.specs.Inboxes.{in_inbox};
 ghost use Rattle.node_laws.specs.Later.{IsLater};
+ghost use Rattle.node_laws.specs.Streams.{IsTakenAs, takes_to_fault};
 
 /// Nothing leaves a node's pool or its reports, nothing in them changes its place, and the configuration stays: by a
 /// message, by many, by a piece of bytes, an addition, or the start of a round. It does nothing when it runs: its contract
@@ -37,4 +45,46 @@ pub fn ended_nodes_stay()
     ensures by_piece { (s : NodeState) (e : End) (piece : List ℕ) → s.ended ≡ Some e → receives s piece ≡ passed s }
     ensures by_addition { (s : NodeState) (e : End) (tx : List ℕ) → s.ended ≡ Some e → adds s tx ≡ record { added = added.Ended; turn = passed s } }
     ensures by_round { (s : NodeState) (e : End) → s.ended ≡ Some e → begins s ≡ record { begun = false; turn = passed s } }
+{}
+
+/// What stands whole in the unread bytes is handled frame by frame (`next`), and it doesn't matter how many frames may be
+/// handled where they are enough. A piece that comes in two parts is handled alike. What a node that hasn't ended leaves
+/// unread is unfinished, and so shorter than the longest frame; one that ends leaves nothing. It does nothing when it
+/// runs: its contract is the theorem.
+pub fn pieces_are_handled_alike()
+    ensures next { (s : NodeState) → handled s ≡ at_front (front_of s.config.magic s.inbox.place s.inbox.unread) s handled }
+    ensures enough { (n : ℕ) (s : NodeState) → length s.inbox.unread ≤ n → handles n s ≡ handled s }
+    ensures in_parts { (s : NodeState) (p q : List ℕ) → receives s (p ++ q) ≡ followed (receives s p) (receives (receives s p).state q) }
+    ensures unfinished { (s : NodeState) (piece : List ℕ) → s.ended ≡ None → (receives s piece).state.ended ≡ None → Unfinished s.config.magic (receives s piece).state.inbox.unread }
+    ensures short { (s : NodeState) (piece : List ℕ) → s.ended ≡ None → (receives s piece).state.ended ≡ None
+        → length (receives s piece).state.inbox.unread < HEADER_LEN + PAYLOAD_LIMIT }
+    ensures dropped { (s : NodeState) (piece : List ℕ) (e : End) → s.ended ≡ None → (receives s piece).state.ended ≡ Some e → (receives s piece).state.inbox.unread ≡ [] }
+{}
+
+/// A node takes the messages that its unread bytes and a piece are the stream of, in order, up to its end, and keeps the
+/// rest; where a fault stands behind them it ends with that fault. It does nothing when it runs: its contract is the
+/// theorem.
+pub fn streams_are_taken()
+    ensures messages { (s : NodeState) (piece : List ℕ) (ms : List Message) (rest : List ℕ) → length s.config.magic ≡ 4 → s.inbox.place < 2 ^ 64 → s.ended ≡ None
+        → Stream s.config.magic (s.inbox.unread ++ piece) ms rest → IsTakenAs (takes_all s ms) (receives s piece) }
+    ensures rest { (s : NodeState) (piece : List ℕ) (ms : List Message) (rest : List ℕ) → length s.config.magic ≡ 4 → s.inbox.place < 2 ^ 64 → s.ended ≡ None
+        → Stream s.config.magic (s.inbox.unread ++ piece) ms rest → (takes_all s ms).state.ended ≡ None
+        → (receives s piece).state.inbox ≡ record { unread = rest; place = later s.inbox.place (length (on_wire s.config.magic ms)) } }
+    ensures fault { (s : NodeState) (piece : List ℕ) (ms : List Message) (f : StreamFault) → length s.config.magic ≡ 4 → s.inbox.place < 2 ^ 64 → s.ended ≡ None
+        → Stop s.config.magic s.inbox.place (s.inbox.unread ++ piece) ms f → IsTakenAs (takes_to_fault s ms f) (receives s piece) }
+{}
+
+/// Where one id more is known, those of an announcement that are new are the others: so they may be found from the left,
+/// each being known to those behind it. It does nothing when it runs: its contract is the theorem.
+pub fn new_ids_are_found_from_the_left()
+    ensures { (known : Hash32 → Bool) (id : Hash32) (ids : List Hash32) → new_ids (λ other. known other || same_id other id) ids ≡ without (new_ids known ids) id }
+{}
+
+/// Nothing leaves the pool of a node whose memory is refused in a piece, and nothing happens to it any more. It does
+/// nothing when it runs: its contract is the theorem.
+pub fn starved_nodes_stay()
+    ensures pool { (old new : NodeView) (piece : List ℕ) → IsStarvedIn old piece new → (more : List Held) × (new.state.pool ≡ old.state.pool ++ more) }
+    ensures by_piece { (v : NodeView) (piece : List ℕ) → v.starved ≡ true → view_behind_piece v piece ≡ v }
+    ensures by_addition { (v : NodeView) (tx : List ℕ) → v.starved ≡ true → view_behind_addition v tx ≡ v }
+    ensures by_round { (v : NodeView) → v.starved ≡ true → view_behind_start v ≡ v }
 {}
