@@ -3,8 +3,8 @@ use Rattle.std.proofs.Common.{ℕ, Bool, true, false, List, [], ◌∷◌, ◌++
 use Rattle.node_rules.specs.Additions.{adds}
 use Rattle.node_rules.specs.Steps.{receives, begins}
 use Rattle.node_rules.specs.Turns.{Turn}
-use Rattle.node_laws.specs.Pools.{Grows}
-use Rattle.node_laws.proofs.GrowingSteps.{receives-grows, adds-grows, begins-grows}
+use Rattle.node_laws.specs.Later.{IsLater}
+use Rattle.node_laws.proofs.LaterSteps.{receives-later, adds-later, begins-later}
 use Rattle.pair_rules.specs.World.{World, Effect, turn_a, turn_b, fullness, happens, unless_ended, run_from, has_end}
 use Rattle.pair_rules.specs.declared.event.Event.{Event}
 use Rattle.pair_rules.specs.declared.event.Event.TheVariants as event
@@ -22,19 +22,19 @@ extends-both u v w first second = record {
 }
 
 -- a step of a side
-turn_a-extends : (w : World) (ba : List ℕ) (t : Turn) (full : ℕ) → Grows w.a t → Extends w (turn_a (record w { ba = ba }) t full).world
-turn_a-extends w ba t full g = record { more_a = g.more; more_b = []; pool_a = g.grown; pool_b = sym (append-nil w.b.pool) }
+turn_a-extends : (w : World) (ba : List ℕ) (t : Turn) (full : ℕ) → IsLater w.a t.state → Extends w (turn_a (record w { ba = ba }) t full).world
+turn_a-extends w ba t full g = record { more_a = g.new_held; more_b = []; pool_a = g.pool; pool_b = sym (append-nil w.b.pool) }
 
-turn_b-extends : (w : World) (ab : List ℕ) (t : Turn) (full : ℕ) → Grows w.b t → Extends w (turn_b (record w { ab = ab }) t full).world
-turn_b-extends w ab t full g = record { more_a = []; more_b = g.more; pool_a = sym (append-nil w.a.pool); pool_b = g.grown }
+turn_b-extends : (w : World) (ab : List ℕ) (t : Turn) (full : ℕ) → IsLater w.b t.state → Extends w (turn_b (record w { ab = ab }) t full).world
+turn_b-extends w ab t full g = record { more_a = []; more_b = g.new_held; pool_a = sym (append-nil w.a.pool); pool_b = g.pool }
 
 pub happens-extends : (w : World) (e : Event) → Extends w (happens w e).world
 unfolding happens
-happens-extends w (event.DeliverAb n) = turn_b-extends w (drop n w.ab) (receives w.b (take n w.ab)) 0 (receives-grows w.b (take n w.ab))
-happens-extends w (event.DeliverBa n) = turn_a-extends w (drop n w.ba) (receives w.a (take n w.ba)) 0 (receives-grows w.a (take n w.ba))
-happens-extends w (event.AddA tx) = turn_a-extends w w.ba (adds w.a tx).turn (fullness (adds w.a tx).added) (adds-grows w.a tx)
-happens-extends w (event.AddB tx) = turn_b-extends w w.ab (adds w.b tx).turn (fullness (adds w.b tx).added) (adds-grows w.b tx)
-happens-extends w event.Round = turn_a-extends w w.ba (begins w.a).turn 0 (begins-grows w.a)
+happens-extends w (event.DeliverAb n) = turn_b-extends w (drop n w.ab) (receives w.b (take n w.ab)) 0 (receives-later w.b (take n w.ab))
+happens-extends w (event.DeliverBa n) = turn_a-extends w (drop n w.ba) (receives w.a (take n w.ba)) 0 (receives-later w.a (take n w.ba))
+happens-extends w (event.AddA tx) = turn_a-extends w w.ba (adds w.a tx).turn (fullness (adds w.a tx).added) (adds-later w.a tx)
+happens-extends w (event.AddB tx) = turn_b-extends w w.ab (adds w.b tx).turn (fullness (adds w.b tx).added) (adds-later w.b tx)
+happens-extends w event.Round = turn_a-extends w w.ba (begins w.a).turn 0 (begins-later w.a)
 
 unless_ended-extends : (over : Bool) (w : World) (x : Effect) (next : World → Effect) → Extends w x.world → ((v : World) → Extends v (next v).world) → Extends w (unless_ended over w x next).world
 unfolding unless_ended
