@@ -42,7 +42,7 @@ impl Random {
         let mut word = self.state;
         word = (word ^ (word >> 30)).wrapping_mul(0xbf58_476d_1ce4_e5b9);
         word = (word ^ (word >> 27)).wrapping_mul(0x94d0_49bb_1331_11eb);
-        ((word ^ (word >> 31)) >> 32) as u32
+        u32::try_from((word ^ (word >> 31)) >> 32).unwrap_or(0)
     }
 }
 
