@@ -53,8 +53,8 @@ fn is_nonzero<F: Field>(e: F) -> bool
     e != F::ZERO
 }
 
-/// The sketch of the capacity of a random set of so many elements. A number that is drawn twice, or that is 0, is drawn
-/// again, unless that happens without end.
+/// The sketch of the capacity of a random set of so many elements. Where 0 or a number that the set has is drawn, another
+/// one is; after twice as many draws as elements there is no sketch.
 fn sketch_of(
     alloc: Global,
     random: &mut Random,
