@@ -1,14 +1,19 @@
-"""Runs a program that times calls of the libraries. bench/field.py and bench/recurrence.py use it."""
+"""Runs a program that times or counts calls of the libraries. bench/field.py, recurrence.py and false_answers.py use it."""
 import argparse, os, shutil, subprocess, sys, tempfile
 
 TOP = os.path.dirname(os.path.dirname(os.path.abspath(__file__)))
 
 
-def is_kept(about):
-    """Reads the words of the command line: whether the folder is to be left."""
+def words_of(about):
+    """The words of the command line that each of these scripts takes."""
     words = argparse.ArgumentParser(description=about, formatter_class=argparse.RawDescriptionHelpFormatter)
     words.add_argument("--keep", action="store_true", help="leave the folder")
-    return words.parse_args().keep
+    return words
+
+
+def is_kept(about):
+    """Reads the words of the command line: whether the folder is to be left."""
+    return words_of(about).parse_args().keep
 
 
 def stood_on(uses):
