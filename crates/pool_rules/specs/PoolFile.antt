@@ -8,9 +8,9 @@ use Rattle.base_types.specs.declared.text.Kind.TheVariants as kind
 use Rattle.base_types.specs.declared.text.TextFault.{TextFault}
 use Rattle.line_rules.specs.Lines.{line, lines_of}
 use Rattle.line_rules.specs.Reading.{read_lines}
+use Rattle.line_rules.specs.Digits.{◌>>=◌, bytes_in}
 use Rattle.id_rules.specs.Ids.{wtxid}
 use Rattle.id_rules.specs.declared.TheConstants.{TX_LIMIT}
-use Rattle.pool_rules.specs.Digits.{◌>>=◌, bytes_in}
 use Rattle.pool_rules.specs.Pools.{Held, held, same_id, in_pool, has_room}
 
 -- a transaction's line

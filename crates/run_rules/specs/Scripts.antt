@@ -7,12 +7,12 @@ use Rattle.base_types.specs.declared.text.Kind.TheVariants as kind
 use Rattle.base_types.specs.declared.text.TextFault.{TextFault}
 use Rattle.line_rules.specs.Lines.{Line, lines_of, begins_with}
 use Rattle.line_rules.specs.Reading.{read_lines}
-use Rattle.pool_rules.specs.Digits.{◌>>=◌}
+use Rattle.line_rules.specs.Digits.{◌>>=◌}
+use Rattle.line_rules.specs.Numbers.{number_within}
 use Rattle.pool_rules.specs.PoolFile.{tx_in}
 use Rattle.pair_rules.specs.World.{deliveries}
 use Rattle.pair_rules.specs.declared.event.Event.{Event}
 use Rattle.pair_rules.specs.declared.event.Event.TheVariants as event
-use Rattle.run_rules.specs.Numbers.{number_within}
 use Rattle.run_rules.specs.declared.limits.TheConstants.{EVENT_LIMIT}
 
 -- an event that delivers a number of bytes

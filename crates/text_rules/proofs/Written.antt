@@ -13,8 +13,8 @@ use Rattle.base_types.specs.declared.text.Kind.TheVariants as kind
 use Rattle.line_rules.specs.Digits.{eight_digits}
 use Rattle.line_rules.specs.Lines.{lines, numbered}
 use Rattle.line_rules.specs.Reading.{behind, read_lines}
+use Rattle.line_rules.proofs.Lines.{digits_plain, lines-line, numbered-line}
 use Rattle.text_rules.specs.Elements.{IsSet, element_of, nonzero, put_in, set_in, set_text, spelled}
-use Rattle.text_rules.proofs.Lines.{digits_plain, lines-line, numbered-line}
 
 -- the bytes of an element are bytes
 IsBytes-be_bytes : (e : ℕ) → IsBytes (to_be_bytes w32 e)
