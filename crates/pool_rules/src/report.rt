@@ -9,6 +9,8 @@ pub enum Ending {
     First,
     /// The extended sketch was answered.
     Extension,
+    /// The sketch extended twice was answered.
+    Extension2,
     /// No sketch was: all is announced.
     Fallback,
 }
