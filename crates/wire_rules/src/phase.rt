@@ -14,6 +14,8 @@ pub enum Phase {
     Waiting,
     /// The extension of the sketch was asked for.
     WaitingExt,
+    /// A second extension was asked for.
+    WaitingExt2,
     /// The round was answered or given up, and its ping was sent.
     Barrier,
     /// Transactions were asked for, and some haven't come.
@@ -22,4 +24,6 @@ pub enum Phase {
     Sent,
     /// Its extension was sent.
     SentExt,
+    /// A second extension was sent.
+    SentExt2,
 }
