@@ -1,11 +1,10 @@
 -- Ids, keys and short ids.
-use Rattle.std.proofs.Common.{◌≡◌, ℕ, zero, suc, ◌+◌, ◌/◌, ◌%◌, ◌^◌, ◌<◌, ◌≤◌, ◌==◌, nat_lt, nat_le, Bool, true, false, IsTrue, List, [], ◌∷◌, ◌++◌, length, slice_index, if◌then◌else◌, refl, sym, ap, ap₂, ◌∙◌, subst, arith, lit<, mod-lt, le-leb, eq-eqb}
+use Rattle.std.proofs.Common.{◌≡◌, ℕ, zero, suc, ◌/◌, ◌%◌, ◌^◌, ◌<◌, ◌==◌, nat_lt, nat_le, Bool, true, false, List, ◌++◌, length, slice_index, if◌then◌else◌, refl, sym, ap, ap₂, ◌∙◌, arith, lit<, mod-lt, le-leb, eq-eqb}
 use Rattle.std.specs.Int.{to_be_bytes, byte_at, bytes_high_first, w32}
 use Rattle.std.proofs.lemmas.Bool.{and_from, leb-true, leb-false}
 use Rattle.std.proofs.lemmas.List.Folds.{list_all-append}
 use Rattle.sha2.specs.Sha256.{sha256, digest_bytes, final_hash, initial_hash_256}
 use Rattle.sha2.proofs.Facts256.{length-sha256}
-use Rattle.hex.specs.Hex.{IsBytes}
 use Rattle.base_types.specs.declared.lists.Hash32.{Hash32}
 use Rattle.id_rules.specs.Bytes.{are_bytes, are_bytes_of}
 use Rattle.id_rules.specs.Ids.{KeyPair, wtxid, salted, key_in, keys_of, short_id}

@@ -1,5 +1,5 @@
 -- A pool with one transaction more.
-use Rattle.std.proofs.Common.{◌≡◌, ℕ, ◌+◌, ◌≤◌, ◌<◌, ◌&&◌, ◌||◌, not, Bool, true, false, IsTrue, List, [], ◌∷◌, ◌++◌, length, nat_le, nat_lt, refl, sym, ap, ap₂, ◌∙◌, subst, arith, length-append}
+use Rattle.std.proofs.Common.{◌≡◌, ℕ, ◌+◌, ◌≤◌, ◌<◌, ◌||◌, not, Bool, true, false, List, [], ◌∷◌, ◌++◌, length, nat_lt, refl, sym, ap, ap₂, ◌∙◌, subst, arith, length-append}
 use Rattle.std.specs.List.{AllByRecursion}
 use Rattle.std.specs.Cmp.Lexicographic.{bytes_decides}
 use Rattle.std.proofs.lemmas.Bool.{leb-true, ltb-true, or_parts, not-true, and_parts, both_ways, false_from_ne_true}
@@ -9,7 +9,6 @@ use Rattle.std.proofs.lemmas.List.Sums.{sum_by-append}
 use Rattle.base_types.specs.declared.lists.Hash32.{Hash32}
 use Rattle.id_rules.specs.Ids.{wtxid}
 use Rattle.pool_rules.specs.Pools.{Held, Distinct, IsHeld, IsPool, byte_count, bytes_fit, has_room, held, in_pool, insertion, insertion_by, listed, pool_ids, same_id}
-use Rattle.pool_rules.specs.declared.insertion.Inserted.TheVariants as inserted
 use Rattle.pool_rules.specs.declared.limits.TheConstants.{POOL_LIMIT, POOL_BYTES}
 use Rattle.pool_laws.specs.Outcomes.{IsOutcome}
 

@@ -1,5 +1,5 @@
 -- Which frames and messages may be sent.
-use Rattle.std.specs.Prelude.{ℕ, ◌^◌, ◌≤◌, ◌&&◌, nat_lt, nat_le, not, is_some, Bool, true, IsTrue, length}
+use Rattle.std.specs.Prelude.{◌^◌, ◌≤◌, ◌&&◌, nat_lt, nat_le, not, is_some, Bool, true, IsTrue, length}
 use Rattle.std.specs.List.{list_all}
 use Rattle.id_rules.specs.Bytes.{are_bytes, are_bytes_of, is_optional_byte, fits_signed, is_tx_length}
 use Rattle.wire_rules.specs.Commands.{is_command, name_at}
