@@ -26,14 +26,17 @@ phase_text phase.Greeted = codes "greeted"
 phase_text phase.Idle = codes "idle"
 phase_text phase.Waiting = codes "waiting"
 phase_text phase.WaitingExt = codes "waiting-ext"
+phase_text phase.WaitingExt2 = codes "waiting-ext2"
 phase_text phase.Barrier = codes "barrier"
 phase_text phase.Fetching = codes "fetching"
 phase_text phase.Sent = codes "sent"
 phase_text phase.SentExt = codes "sent-ext"
+phase_text phase.SentExt2 = codes "sent-ext2"
 
 unfoldable pub ending_text : Ending → List ℕ
 ending_text ending.First = codes "first"
 ending_text ending.Extension = codes "extension"
+ending_text ending.Extension2 = codes "extension2"
 ending_text ending.Fallback = codes "fallback"
 
 abbrev pub side_text : Side → List ℕ
