@@ -10,7 +10,7 @@ use Rattle.sketch_laws.proofs.Bytes.{length-bytes_of}
 use Rattle.sketch_bytes.proofs.Reading.{IsBytes-bytes_of, read-line_of}
 use Rattle.line_rules.specs.Lines.{Line, line, lines_of}
 use Rattle.line_rules.specs.Reading.{behind}
-use Rattle.text_rules.proofs.Lines.{IsPlain, digits_plain, lines_of-line, lines_of-two}
+use Rattle.line_rules.proofs.Lines.{IsPlain, digits_plain, lines_of-line, lines_of-two}
 use Rattle.erlay_cli.specs.SketchLines.{kinded, sketch_in, sketch_of_line, sketch_of_lines, sum_in, sum_of_lines, summed_at}
 
 -- two digits a byte, 4 bytes a sum

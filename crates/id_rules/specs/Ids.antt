@@ -19,22 +19,22 @@ pub record KeyPair : Type 0 where
   pub k1 : ℕ
 
 -- the tag of the salted key, as BIP 340 tags hashes
-abbrev pub salting_tag : List ℕ
+unfoldable pub salting_tag : List ℕ
 salting_tag = sha256 (codes "Tx Relay Salting")
 
 -- the tagged hash of two salts (BIP 330, sendtxrcncl)
-abbrev pub salted : ℕ → ℕ → List ℕ
+unfoldable pub salted : ℕ → ℕ → List ℕ
 salted low high = sha256 (salting_tag ++ salting_tag ++ to_le_bytes w64 low ++ to_le_bytes w64 high)
 
 -- a key from the first 16 bytes of a hash, the lowest byte of each word first
-abbrev pub key_in : List ℕ → KeyPair
+unfoldable pub key_in : List ℕ → KeyPair
 key_in bytes = record { k0 = from_le_bytes w64 (take 8 bytes); k1 = from_le_bytes w64 (slice_range bytes 8 16) }
 
 -- the key of the salts of both nodes, in either order: the smaller one is hashed first
-abbrev pub keys_of : ℕ → ℕ → KeyPair
+unfoldable pub keys_of : ℕ → ℕ → KeyPair
 keys_of a b = key_in (if nat_le a b then salted a b else salted b a)
 
 -- the short id of a transaction under a key. It has 32 bits and is never 0. That it is taken of the 32 bytes of the id
 -- as they are stored is this project's own
-abbrev pub short_id : KeyPair → Hash32 → ℕ
+unfoldable pub short_id : KeyPair → Hash32 → ℕ
 short_id keys id = 1 + sip24 keys.k0 keys.k1 id.0 % 0xFFFFFFFF

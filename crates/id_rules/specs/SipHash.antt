@@ -54,5 +54,5 @@ finished s =
     in bit_xor (bit_xor t.v0 t.v1) (bit_xor t.v2 t.v3)
 
 -- SipHash-2-4 of bytes under a key
-abbrev pub sip24 : ℕ → ℕ → List ℕ → ℕ
+unfoldable pub sip24 : ℕ → ℕ → List ℕ → ℕ
 sip24 k0 k1 bytes = finished (fold absorbed (sip_start k0 k1) (words_of (length bytes) bytes))

@@ -1,2 +1,4 @@
 pub mod Lines
 pub mod Reading
+pub mod Digits
+pub mod Numbers

@@ -1,5 +1,6 @@
 -- The lines of a text.
-use Rattle.std.specs.Prelude.{ℕ, ◌+◌, ◌==◌, ◌&&◌, Bool, true, false, if◌then◌else◌, List, [], ◌∷◌, ◌++◌}
+use Rattle.std.specs.Prelude.{ℕ, ◌+◌, ◌==◌, ◌&&◌, nat_eq, Bool, true, false, if◌then◌else◌, List, [], ◌∷◌, ◌++◌}
+use Rattle.std.specs.List.{starts_with}
 
 -- whether the text begins with LF
 abbrev pub begins_with_end : List ℕ → Bool
@@ -25,6 +26,10 @@ pub record Line : Type 0 where
 abbrev pub is_empty : List ℕ → Bool
 is_empty [] = true
 is_empty (b ∷ rest) = false
+
+-- whether a line begins with these bytes
+abbrev pub begins_with : List ℕ → List ℕ → Bool
+begins_with bytes first = starts_with nat_eq bytes first
 
 -- the lines that aren't empty, with their numbers, of which the first line has n: empty lines are counted and passed over
 unfoldable pub numbered : ℕ → List (List ℕ) → List Line

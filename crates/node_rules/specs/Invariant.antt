@@ -4,9 +4,8 @@ use Rattle.std.specs.Prelude.{◌≡◌, ℕ, zero, suc, ◌^◌, ◌<◌, ◌�
 use Rattle.std.specs.List.{AllByRecursion, IsDistinct}
 use Rattle.std.specs.declared.option.Option.{Option}
 use Rattle.base_types.specs.declared.lists.Hash32.{Hash32}
-use Rattle.id_rules.specs.Bytes.{are_bytes}
+use Rattle.id_rules.specs.Bytes.{are_bytes, are_bytes_of, fits_signed}
 use Rattle.id_rules.specs.Ids.{KeyPair}
-use Rattle.wire_rules.specs.Limits.{are_bytes_of, fits_signed}
 use Rattle.wire_rules.specs.declared.phase.Phase.{Phase}
 use Rattle.wire_rules.specs.declared.phase.Phase.TheVariants as phase
 use Rattle.pool_rules.specs.Pools.{Held, Distinct, IsPool, listed, in_pool}

@@ -3,9 +3,8 @@ use Rattle.std.specs.Prelude.{◌≡◌, ℕ, ◌+◌, ◌^◌, ◌<◌, ◌≤�
 use Rattle.std.specs.List.{AllByRecursion}
 use Rattle.std.specs.declared.option.Option.{Option}
 use Rattle.base_types.specs.declared.lists.Hash32.{Hash32}
-use Rattle.id_rules.specs.Bytes.{are_bytes}
+use Rattle.id_rules.specs.Bytes.{are_bytes, are_bytes_of, fits_signed}
 use Rattle.id_rules.specs.Ids.{KeyPair, keys_of}
-use Rattle.wire_rules.specs.Limits.{are_bytes_of, fits_signed}
 use Rattle.wire_rules.specs.declared.phase.Phase.{Phase}
 use Rattle.wire_rules.specs.declared.phase.Phase.TheVariants as phase
 use Rattle.pool_rules.specs.Pools.{Held, Distinct, IsPool, in_pool}

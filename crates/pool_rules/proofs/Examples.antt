@@ -5,6 +5,7 @@ use Rattle.base_types.specs.declared.lists.Hash32.{Hash32}
 use Rattle.base_types.specs.declared.text.Kind.{Kind}
 use Rattle.base_types.specs.declared.text.Kind.TheVariants as kind
 use Rattle.base_types.specs.declared.text.TextFault.{TextFault}
+use Rattle.line_rules.specs.Lines.{line}
 use Rattle.pool_rules.specs.Pools.{Held, held, insertion}
 use Rattle.pool_rules.specs.Snapshots.{Member, Apart, sketched, aside, by_short, snapshot_sketch, snapshot_sums, gap}
 use Rattle.pool_rules.specs.Capacity.{capacity, next_q, next_q_failed}
@@ -104,25 +105,92 @@ again = refl
 abbrev one_line : List ℕ
 one_line = codes "9595c9df90075148eb06860365df33584b75bff782a510c6cd4883a419833d50 68656c6c6f"
 
-one_text : pool_text one ≡ one_line ++ 10 ∷ []
+one_text : pool_text one ≡ line (codes "pool 2 1") ++ line one_line
 unfolding pooling
 one_text = refl
 
-one_read : pool_in (one_line ++ 10 ∷ []) ≡ Ok one
+one_read : pool_in (line (codes "pool 2 1") ++ line one_line) ≡ Ok one
 unfolding pooling
 one_read = refl
 
-empty_read : pool_in [] ≡ Ok []
+empty_text : pool_text [] ≡ line (codes "pool 2 0")
+unfolding pooling
+empty_text = refl
+
+empty_read : pool_in (codes "pool 2 0") ≡ Ok []
 unfolding pooling
 empty_read = refl
 
--- the faults of lines
+-- texts of form 1, without a heading
+one_read_bare : pool_in (line one_line) ≡ Ok one
+unfolding pooling
+one_read_bare = refl
+
+empty_read_bare : pool_in [] ≡ Ok []
+unfolding pooling
+empty_read_bare = refl
+
+-- empty lines count in line numbers alone, and a line may end with CR and LF
+with_returns : pool_in (10 ∷ codes "pool 2 1" ++ 13 ∷ 10 ∷ 10 ∷ one_line ++ 13 ∷ 10 ∷ []) ≡ Ok one
+unfolding pooling
+with_returns = refl
+
+-- the faults of a heading: no other form, no zero in front, nothing behind the number, no more than a pool may have, and
+-- the line's own number
 abbrev bad : ℕ → Kind → Result (List Held) TextFault
 bad place k = Err (record { place = place; kind = k })
+
+other_form : pool_in (codes "pool 3 0") ≡ bad 1 kind.Form
+unfolding pooling
+other_form = refl
+
+zero_in_front : pool_in (line (codes "pool 2 01") ++ line one_line) ≡ bad 1 kind.Form
+unfolding pooling
+zero_in_front = refl
+
+space_behind : pool_in (line (codes "pool 2 0 ")) ≡ bad 1 kind.Form
+unfolding pooling
+space_behind = refl
+
+no_count : pool_in (10 ∷ line (codes "pool ")) ≡ bad 2 kind.Form
+unfolding pooling
+no_count = refl
+
+too_large : pool_in (codes "pool 2 50001") ≡ bad 1 kind.Form
+unfolding pooling
+too_large = refl
+
+-- more lines, or fewer, than the heading tells: before the lines are judged, and the place is their number
+fewer : pool_in (line (codes "pool 2 2") ++ line one_line) ≡ bad 1 kind.LineCount
+unfolding pooling
+fewer = refl
+
+more : pool_in (line (codes "pool 2 1") ++ 10 ∷ line (codes "x") ++ line one_line) ≡ bad 2 kind.LineCount
+unfolding pooling
+more = refl
+
+largest : pool_in (codes "pool 2 50000") ≡ bad 0 kind.LineCount
+unfolding pooling
+largest = refl
+
+-- a heading is the first line that isn't empty, and no other
+second : pool_in (line one_line ++ line (codes "pool 2 1")) ≡ bad 2 kind.Form
+unfolding pooling
+second = refl
+
+twice_headed : pool_in (line (codes "pool 2 1") ++ line (codes "pool 2 0")) ≡ bad 2 kind.Form
+unfolding pooling
+twice_headed = refl
+
+-- the faults of lines
 
 twice : pool_in (one_line ++ 10 ∷ one_line) ≡ bad 2 kind.Repeated
 unfolding pooling
 twice = refl
+
+twice_behind : pool_in (line (codes "pool 2 2") ++ line one_line ++ line one_line) ≡ bad 3 kind.Repeated
+unfolding pooling
+twice_behind = refl
 
 mismatched : pool_in (codes "9595c9df90075148eb06860365df33584b75bff782a510c6cd4883a419833d50 616263") ≡ bad 1 (kind.IdMismatch hello_id abc_id)
 unfolding pooling

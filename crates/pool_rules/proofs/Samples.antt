@@ -3,6 +3,7 @@ use Rattle.std.specs.Prelude.{codes}
 use Rattle.std.specs.Fmt.{digits}
 use Rattle.base_types.specs.declared.lists.Hash32.{Hash32}
 use Rattle.line_rules.specs.Lines.{lines, numbered}
+use Rattle.line_rules.specs.Numbers.{digits_onto}
 use Rattle.line_rules.specs.Reading.{read_lines}
 use Rattle.sketch_rules.specs.Elements.{carryless_below, remainder, product}
 use Rattle.sketch_rules.specs.Ops.{power, power_sum, sums_from}
@@ -10,7 +11,7 @@ use Rattle.sketch_rules.specs.Sets.{placed, ascending}
 use Rattle.sketch_rules.specs.Sketches.{merged, sums_in}
 use Rattle.id_rules.proofs.Samples.{hashing, from_digits}
 use Rattle.pool_rules.specs.Pools.{Distinct, insertion_by}
-use Rattle.pool_rules.specs.PoolFile.{pool_step}
+use Rattle.pool_rules.specs.PoolFile.{pool_step, pool_of_count, pool_of_lines}
 
 -- an example that has this in its line `unfolding` computes sums of sketches and differences of sets
 unfoldable pub sketching : Unit {0}
@@ -19,12 +20,12 @@ sketching = tt
 
 -- the same for lines of text
 unfoldable pub lining : Unit {0}
-unfolding lines numbered read_lines digits
+unfolding lines numbered read_lines digits digits_onto
 lining = tt
 
 -- the same for pools
 unfoldable pub pooling : Unit {0}
-unfolding hashing lining Distinct insertion_by pool_step
+unfolding hashing lining Distinct insertion_by pool_step pool_of_count pool_of_lines
 pooling = tt
 
 -- the ids of the bytes of 'hello' and 'abc'

@@ -1,25 +1,34 @@
 -- A pool as text, which is this project's own: a line for each transaction, its id in stored order, a space and its bytes.
-use Rattle.std.specs.Prelude.{ℕ, ◌==◌, ◌&&◌, nat_lt, nat_le, Bool, if◌then◌else◌, List, [], ◌∷◌, ◌++◌, length, take, drop, slice_index, flat_map, codes, Ok, Err}
+-- A text of form 2 has a heading before them, which tells how many they are; one of form 1 has none. Form 2 is written.
+use Rattle.std.specs.Prelude.{ℕ, ◌==◌, ◌&&◌, nat_lt, nat_le, Bool, if◌then◌else◌, List, [], ◌∷◌, ◌++◌, length, take, drop, slice_index, flat_map, codes, Some, None, Ok, Err}
+use Rattle.std.specs.Fmt.{decimal}
+use Rattle.std.specs.declared.option.Option.{Option}
 use Rattle.std.specs.declared.result.Result.{Result}
 use Rattle.hex.specs.Hex.{encode_lower}
 use Rattle.base_types.specs.declared.lists.Hash32.{Hash32}
 use Rattle.base_types.specs.declared.text.Kind.{Kind}
 use Rattle.base_types.specs.declared.text.Kind.TheVariants as kind
 use Rattle.base_types.specs.declared.text.TextFault.{TextFault}
-use Rattle.line_rules.specs.Lines.{line, lines_of}
+use Rattle.line_rules.specs.Lines.{Line, line, lines_of, begins_with}
+use Rattle.line_rules.specs.Numbers.{number_within}
 use Rattle.line_rules.specs.Reading.{read_lines}
+use Rattle.line_rules.specs.Digits.{◌>>=◌, bytes_in}
 use Rattle.id_rules.specs.Ids.{wtxid}
 use Rattle.id_rules.specs.declared.TheConstants.{TX_LIMIT}
-use Rattle.pool_rules.specs.Digits.{◌>>=◌, bytes_in}
+use Rattle.pool_rules.specs.declared.limits.TheConstants.{POOL_LIMIT}
 use Rattle.pool_rules.specs.Pools.{Held, held, same_id, in_pool, has_room}
 
 -- a transaction's line
 abbrev pub held_line : Held → List ℕ
 held_line t = encode_lower t.id.0 ++ codes " " ++ encode_lower t.bytes
 
--- a pool as text, in its order
+-- the heading of so many transactions
+abbrev pub heading : ℕ → List ℕ
+heading count = codes "pool 2 " ++ decimal count
+
+-- a pool as text: its heading, and its transactions in order
 abbrev pub pool_text : List Held → List ℕ
-pool_text pool = flat_map (λ t. line (held_line t)) pool
+pool_text pool = line (heading (length pool)) ++ flat_map (λ t. line (held_line t)) pool
 
 -- 64 bytes, a space, and at least one byte more
 abbrev pub has_form : List ℕ → Bool
@@ -55,6 +64,24 @@ pool_step pool bytes = do
   tx ← once pool named
   put_in pool tx
 
+-- whether a text that begins with this line is of form 2. No sound line of form 1 begins so
+abbrev pub is_heading : List ℕ → Bool
+is_heading bytes = begins_with bytes (codes "pool ")
+
+-- the number that a heading tells, where it is one from the first byte to the last
+abbrev pub heading_count : List ℕ → Option ℕ
+heading_count bytes = if begins_with bytes (codes "pool 2 ") then number_within 0 POOL_LIMIT (drop 7 bytes) else None
+
+-- the pool of lines, of which the heading tells how many there are
+unfoldable pub pool_of_count : Option ℕ → Line → List Line → Result (List Held) TextFault
+pool_of_count (Some count) first ls = if length ls == count then read_lines pool_step [] ls else Err (record { place = length ls; kind = kind.LineCount })
+pool_of_count None first ls = Err (record { place = first.number; kind = kind.Form })
+
+-- the pool of the lines of a text of either form
+unfoldable pub pool_of_lines : List Line → Result (List Held) TextFault
+pool_of_lines [] = Ok []
+pool_of_lines (l ∷ ls) = if is_heading l.bytes then pool_of_count (heading_count l.bytes) l ls else read_lines pool_step [] (l ∷ ls)
+
 -- the pool of a text, or its first fault
 abbrev pub pool_in : List ℕ → Result (List Held) TextFault
-pool_in text = read_lines pool_step [] (lines_of text)
+pool_in text = pool_of_lines (lines_of text)

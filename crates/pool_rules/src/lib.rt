@@ -6,5 +6,7 @@ mod limits;
 mod report;
 
 pub use insertion::Inserted;
-pub use limits::{FIRST_COEFFICIENT, FIRST_LIMIT, LEAST_CAPACITY, POOL_BYTES, POOL_LIMIT};
+pub use limits::{
+    FIRST_COEFFICIENT, FIRST_LIMIT, LEAST_CAPACITY, POOL_BYTES, POOL_FILE_LIMIT, POOL_LIMIT,
+};
 pub use report::{Ending, Report};

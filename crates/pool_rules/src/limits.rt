@@ -6,6 +6,9 @@ pub const POOL_LIMIT: usize = 50_000;
 /// Bytes of all transactions of a pool.
 pub const POOL_BYTES: u64 = 134_217_728;
 
+/// Bytes of a pool as text: both limits are reached in fewer.
+pub const POOL_FILE_LIMIT: u64 = 272_000_000;
+
 /// The least capacity of a round's first sketch.
 pub const LEAST_CAPACITY: u32 = 8;
 

@@ -5,9 +5,10 @@ use Rattle.wire_rules.specs.declared.faults.PayloadKind.TheVariants as payload
 use Rattle.wire_rules.specs.declared.frame.FrameFault.TheVariants as frame
 use Rattle.wire_rules.specs.declared.name.Name.TheVariants as name
 use Rattle.wire_rules.specs.declared.phase.Phase.TheVariants as phase
+use Rattle.pool_rules.specs.declared.report.Ending.TheVariants as ending
 use Rattle.node_rules.specs.declared.end.End.TheVariants as end
 use Rattle.pair_rules.specs.declared.side.Side.TheVariants as side
-use Rattle.run_rules.specs.Ends.{end_text, refused_text, side_refused_text, truncated}
+use Rattle.run_rules.specs.Ends.{ending_text, end_text, refused_text, side_refused_text, truncated}
 use Rattle.run_rules.proofs.Samples.{writing}
 
 bad_magic : end_text (end.Frame (frame.BadMagic 0)) ≡ codes "bad magic at 0"
@@ -85,3 +86,15 @@ cut_off = refl
 cut_off_later : truncated phase.WaitingExt ≡ codes "truncated waiting-ext"
 unfolding writing
 cut_off_later = refl
+
+cut_off_twice_extended : truncated phase.WaitingExt2 ≡ codes "truncated waiting-ext2"
+unfolding writing
+cut_off_twice_extended = refl
+
+misplaced_twice_extended : end_text (end.Misplaced name.ReqSketchExt phase.SentExt2) ≡ codes "misplaced reqsketchext in sent-ext2"
+unfolding writing
+misplaced_twice_extended = refl
+
+answered_twice_extended : ending_text ending.Extension2 ≡ codes "extension2"
+unfolding writing
+answered_twice_extended = refl

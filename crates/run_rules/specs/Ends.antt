@@ -1,8 +1,8 @@
 -- The texts of phases, endings, faults of streams, and ends, each without its line end. They are this project's own.
 use Rattle.std.specs.Prelude.{ℕ, List, ◌++◌, codes}
-use Rattle.std.specs.Int.{w32, to_be_bytes}
 use Rattle.std.specs.Fmt.{decimal, signed_decimal}
 use Rattle.hex.specs.Hex.{encode_lower}
+use Rattle.line_rules.specs.Digits.{eight_digits}
 use Rattle.wire_rules.specs.Commands.{word_of}
 use Rattle.wire_rules.specs.declared.faults.PayloadFault.{PayloadFault}
 use Rattle.wire_rules.specs.declared.faults.PayloadKind.{PayloadKind}
@@ -26,23 +26,22 @@ phase_text phase.Greeted = codes "greeted"
 phase_text phase.Idle = codes "idle"
 phase_text phase.Waiting = codes "waiting"
 phase_text phase.WaitingExt = codes "waiting-ext"
+phase_text phase.WaitingExt2 = codes "waiting-ext2"
 phase_text phase.Barrier = codes "barrier"
 phase_text phase.Fetching = codes "fetching"
 phase_text phase.Sent = codes "sent"
 phase_text phase.SentExt = codes "sent-ext"
+phase_text phase.SentExt2 = codes "sent-ext2"
 
 unfoldable pub ending_text : Ending → List ℕ
 ending_text ending.First = codes "first"
 ending_text ending.Extension = codes "extension"
+ending_text ending.Extension2 = codes "extension2"
 ending_text ending.Fallback = codes "fallback"
 
 abbrev pub side_text : Side → List ℕ
 side_text side.A = codes "a"
 side_text side.B = codes "b"
-
--- a short id, the most significant digit first
-abbrev pub short_digits : ℕ → List ℕ
-short_digits n = encode_lower (to_be_bytes w32 n)
 
 unfoldable pub frame_fault_text : FrameFault → List ℕ
 frame_fault_text (frame.BadMagic at) = codes "bad magic at " ++ decimal at
@@ -73,8 +72,8 @@ end_text end.ZeroReconVersion = codes "zero version"
 end_text (end.Handshake command) = codes "handshake " ++ word_of command
 end_text (end.Misplaced command p) = codes "misplaced " ++ word_of command ++ codes " in " ++ phase_text p
 end_text (end.SketchLength len wanted) = codes "sketch length " ++ decimal len ++ codes " wanted " ++ decimal wanted
-end_text (end.UnknownShortId n) = codes "unknown short id " ++ short_digits n
-end_text (end.AskRepeated n) = codes "ask repeated " ++ short_digits n
+end_text (end.UnknownShortId n) = codes "unknown short id " ++ eight_digits n
+end_text (end.AskRepeated n) = codes "ask repeated " ++ eight_digits n
 end_text (end.AsksOnFailure count) = codes "asks on failure " ++ decimal count
 end_text end.PoolFull = codes "pool full"
 

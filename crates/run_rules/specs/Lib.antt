@@ -1,5 +1,4 @@
 pub mod Ends
-pub mod Numbers
 pub mod Scripts
 pub mod Generator
 pub mod Pairs

@@ -1,19 +1,18 @@
 -- Scripts: what happens to a pair, a line each. They are this project's own.
-use Rattle.std.specs.Prelude.{ℕ, nat_lt, nat_eq, Bool, if◌then◌else◌, List, [], ◌∷◌, ◌++◌, length, drop, codes, bytes_eq, Some, None, Ok, Err}
-use Rattle.std.specs.List.{starts_with}
+use Rattle.std.specs.Prelude.{ℕ, nat_lt, if◌then◌else◌, List, [], ◌∷◌, ◌++◌, length, drop, codes, bytes_eq, Some, None, Ok, Err}
 use Rattle.std.specs.declared.option.Option.{Option}
 use Rattle.std.specs.declared.result.Result.{Result}
 use Rattle.base_types.specs.declared.text.Kind.{Kind}
 use Rattle.base_types.specs.declared.text.Kind.TheVariants as kind
 use Rattle.base_types.specs.declared.text.TextFault.{TextFault}
-use Rattle.line_rules.specs.Lines.{Line, lines_of}
+use Rattle.line_rules.specs.Lines.{Line, lines_of, begins_with}
 use Rattle.line_rules.specs.Reading.{read_lines}
-use Rattle.pool_rules.specs.Digits.{◌>>=◌}
+use Rattle.line_rules.specs.Digits.{◌>>=◌}
+use Rattle.line_rules.specs.Numbers.{number_within}
 use Rattle.pool_rules.specs.PoolFile.{tx_in}
 use Rattle.pair_rules.specs.World.{deliveries}
 use Rattle.pair_rules.specs.declared.event.Event.{Event}
 use Rattle.pair_rules.specs.declared.event.Event.TheVariants as event
-use Rattle.run_rules.specs.Numbers.{number_within}
 use Rattle.run_rules.specs.declared.limits.TheConstants.{EVENT_LIMIT}
 
 -- an event that delivers a number of bytes
@@ -28,10 +27,6 @@ addition made (b ∷ rest) = tx_in (b ∷ rest) >>= (λ tx. Ok (made tx ∷ []))
 
 abbrev pub delivered_bytes : List ℕ → Option ℕ
 delivered_bytes word = number_within 1 1000000000 word
-
--- whether a line begins with a word and a space
-abbrev pub begins_with : List ℕ → List ℕ → Bool
-begins_with line word = starts_with nat_eq line word
 
 -- the events of a line
 unfoldable pub line_events : List ℕ → Result (List Event) Kind

@@ -9,14 +9,13 @@ use Rattle.base_types.specs.declared.text.Kind.TheVariants as kind
 use Rattle.base_types.specs.declared.text.TextFault.{TextFault}
 use Rattle.line_rules.specs.Lines.{line, lines_of}
 use Rattle.line_rules.specs.Reading.{read_lines}
+use Rattle.line_rules.specs.Digits.{◌>>=◌, bytes_in, eight_digits}
 use Rattle.id_rules.specs.Ids.{KeyPair, keys_of, short_id}
 use Rattle.wire_rules.specs.Layout.{on_wire}
 use Rattle.wire_rules.specs.Shown.{shown}
 use Rattle.wire_rules.specs.ShownReading.{read_shown}
 use Rattle.wire_rules.specs.Stream.{StreamFault, OfFrame, OfPayload, StreamRead, stream_of}
 use Rattle.wire_rules.specs.declared.message.Message.{Message}
-use Rattle.pool_rules.specs.Digits.{◌>>=◌, bytes_in}
-use Rattle.run_rules.specs.Ends.{short_digits}
 use Rattle.run_rules.specs.declared.limits.TheConstants.{MAIN_MAGIC}
 use Rattle.run_rules.specs.declared.stream.StreamKind.{StreamKind}
 use Rattle.run_rules.specs.declared.stream.StreamKind.TheVariants as stream
@@ -34,7 +33,7 @@ abbrev pub ids_in : List ℕ → Result (List Hash32) TextFault
 ids_in text = read_lines id_step [] (lines_of text)
 
 abbrev pub id_line : KeyPair → Hash32 → List ℕ
-id_line keys id = encode_lower id.0 ++ codes " " ++ short_digits (short_id keys id)
+id_line keys id = encode_lower id.0 ++ codes " " ++ eight_digits (short_id keys id)
 
 abbrev pub ids_text : ℕ → ℕ → List Hash32 → List ℕ
 ids_text salt other ids = flat_map (λ id. line (id_line (keys_of salt other) id)) ids

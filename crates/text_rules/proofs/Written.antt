@@ -10,10 +10,11 @@ use Rattle.std.proofs.lemmas.Nat.{from_be_bytes-to_be_bytes_4}
 use Rattle.hex.specs.Hex.{IsBytes, decode_of, lower_digits}
 use Rattle.hex.proofs.HexLemmas.{decode_of-encode_lower, length-encode_with}
 use Rattle.base_types.specs.declared.text.Kind.TheVariants as kind
+use Rattle.line_rules.specs.Digits.{eight_digits}
 use Rattle.line_rules.specs.Lines.{lines, numbered}
 use Rattle.line_rules.specs.Reading.{behind, read_lines}
-use Rattle.text_rules.specs.Elements.{IsSet, element_of, element_text, nonzero, put_in, set_in, set_text, spelled}
-use Rattle.text_rules.proofs.Lines.{digits_plain, lines-line, numbered-line}
+use Rattle.line_rules.proofs.Lines.{digits_plain, lines-line, numbered-line}
+use Rattle.text_rules.specs.Elements.{IsSet, element_of, nonzero, put_in, set_in, set_text, spelled}
 
 -- the bytes of an element are bytes
 IsBytes-be_bytes : (e : ℕ) → IsBytes (to_be_bytes w32 e)
@@ -24,15 +25,15 @@ IsBytes-be_bytes e (suc (suc (suc zero))) = omega arith
 IsBytes-be_bytes e (suc (suc (suc (suc i)))) = lit< tt
 
 -- 8 digits
-length-element_text : (e : ℕ) → length (element_text e) ≡ 8
-length-element_text e = length-encode_with lower_digits (to_be_bytes w32 e)
+length-eight_digits : (e : ℕ) → length (eight_digits e) ≡ 8
+length-eight_digits e = length-encode_with lower_digits (to_be_bytes w32 e)
 
 -- the line of an element spells it
-element_of-text : (e : ℕ) → 0 < e → e < 2 ^ 32 → element_of (element_text e) ≡ Ok e
-element_of-text e some small =
+element_of-eight_digits : (e : ℕ) → 0 < e → e < 2 ^ 32 → element_of (eight_digits e) ≡ Ok e
+element_of-eight_digits e some small =
     let there : e ≢ 0 = λ none. omega arith in
     let decoded = decode_of-encode_lower (to_be_bytes w32 e) (IsBytes-be_bytes e) in
-    ap (λ eight. if eight then spelled (decode_of (element_text e)) else Err kind.DigitCount) (eq-eqb (length (element_text e)) 8 (length-element_text e))
+    ap (λ eight. if eight then spelled (decode_of (eight_digits e)) else Err kind.DigitCount) (eq-eqb (length (eight_digits e)) 8 (length-eight_digits e))
     ∙ ap spelled decoded
     ∙ ap nonzero (from_be_bytes-to_be_bytes_4 e small)
     ∙ ap (λ zero. if zero then Err kind.Zero else Ok e) (ne_eqb e 0 there)
@@ -56,14 +57,14 @@ unfolding read_lines lines numbered
 read-elements [] s n within differ fresh = ap Ok (sym (append-nil s))
 read-elements (e ∷ es) s n within differ fresh =
     let here = All-head (λ e. (0 < e) × (e < 2 ^ 32)) e es within in
-    let cut = lines-line (element_text e) (set_text es) (digits_plain (to_be_bytes w32 e) (IsBytes-be_bytes e)) in
-    let first = numbered-line n (element_text e) (lines (set_text es)) (omega (arith, length-element_text e)) in
-    let spells = element_of-text e here.0 here.1 in
+    let cut = lines-line (eight_digits e) (set_text es) (digits_plain (to_be_bytes w32 e) (IsBytes-be_bytes e)) in
+    let first = numbered-line n (eight_digits e) (lines (set_text es)) (omega (arith, length-eight_digits e)) in
+    let spells = element_of-eight_digits e here.0 here.1 in
     let placed = put_in-new s e (fresh 0 e (omega arith)) in
     ap (λ ls. read_lines (λ ds bytes. put_in ds (element_of bytes)) s (numbered n ls)) cut
     ∙ ap (read_lines (λ ds bytes. put_in ds (element_of bytes)) s) first
-    ∙ ap (λ r. behind (record { number = n; bytes = element_text e }) (put_in s r) (λ more. read_lines (λ ds bytes. put_in ds (element_of bytes)) more (numbered (n + 1) (lines (set_text es))))) spells
-    ∙ ap (λ r. behind (record { number = n; bytes = element_text e }) r (λ more. read_lines (λ ds bytes. put_in ds (element_of bytes)) more (numbered (n + 1) (lines (set_text es))))) placed
+    ∙ ap (λ r. behind (record { number = n; bytes = eight_digits e }) (put_in s r) (λ more. read_lines (λ ds bytes. put_in ds (element_of bytes)) more (numbered (n + 1) (lines (set_text es))))) spells
+    ∙ ap (λ r. behind (record { number = n; bytes = eight_digits e }) r (λ more. read_lines (λ ds bytes. put_in ds (element_of bytes)) more (numbered (n + 1) (lines (set_text es))))) placed
     ∙ read-elements es (s ++ e ∷ []) (n + 1) (All-tail (λ e. (0 < e) × (e < 2 ^ 32)) e es within) (λ i j d below in_es. differ (suc i) (suc j) d (omega arith) (omega arith)) (still_new s e es differ fresh)
     ∙ ap Ok (append_assoc s (e ∷ []) es)
 

@@ -1,12 +1,13 @@
 -- Elements as text: what `make` reads and `decode` writes.
 use Rattle.std.specs.Prelude.{◌≢◌, ℕ, ◌^◌, ◌<◌, ◌==◌, ◌++◌, if◌then◌else◌, List, [], ◌∷◌, length, codes, Result, Ok, Err}
 use Rattle.std.specs.List.{All, AllPairs, flat_map, list_any}
-use Rattle.std.specs.Int.{from_be_bytes, to_be_bytes, w32}
-use Rattle.hex.specs.Hex.{decode_of, encode_lower}
+use Rattle.std.specs.Int.{from_be_bytes, w32}
+use Rattle.hex.specs.Hex.{decode_of}
 use Rattle.hex.specs.declared.error.FromHexError.{FromHexError}
 use Rattle.base_types.specs.declared.text.Kind.{Kind}
 use Rattle.base_types.specs.declared.text.Kind.TheVariants as kind
 use Rattle.base_types.specs.declared.text.TextFault.{TextFault}
+use Rattle.line_rules.specs.Digits.{eight_digits}
 use Rattle.line_rules.specs.Lines.{line, lines_of}
 use Rattle.line_rules.specs.Reading.{read_lines}
 
@@ -36,13 +37,9 @@ set_in text = read_lines (λ es bytes. put_in es (element_of bytes)) [] (lines_o
 abbrev pub IsSet : List ℕ → Type 0
 IsSet es = All (λ e. (0 < e) × (e < 2 ^ 32)) es × AllPairs (λ a b. a ≢ b) es
 
--- an element as text: the digits of its 4 bytes, the most significant first, in lower case
-abbrev pub element_text : ℕ → List ℕ
-element_text e = encode_lower (to_be_bytes w32 e)
-
--- a set as text: each element as a line, in their order
+-- a set as text: the digits of each element as a line, in their order
 abbrev pub set_text : List ℕ → List ℕ
-set_text es = flat_map (λ e. line (element_text e)) es
+set_text es = flat_map (λ e. line (eight_digits e)) es
 
 -- what stands in place of a set where there is none
 abbrev pub no_set : List ℕ

@@ -3,10 +3,10 @@ use Rattle.std.proofs.Common.{◌≡◌, ℕ, ◌+◌, ◌^◌, ◌<◌, ◌≤�
 use Rattle.std.specs.List.{list_all}
 use Rattle.std.specs.Int.{w16, w32, w64, to_le_bytes}
 use Rattle.std.proofs.lemmas.Bool.{ltb-true, leb-true, eqb-true}
-use Rattle.id_rules.specs.Bytes.{are_bytes, is_tx_length}
+use Rattle.id_rules.specs.Bytes.{are_bytes, is_tx_length, are_bytes_of, fits_signed, is_optional_byte}
 use Rattle.wire_rules.specs.Commands.{word_of, command_of, is_command, name_at}
 use Rattle.wire_rules.specs.Layout.{compact_size, counted, diff_payload, entry_bytes, flag_byte, frame_of, inventory, named, optional_byte, signed_bytes, version_payload}
-use Rattle.wire_rules.specs.Limits.{IsMessage, are_bytes_of, fits_signed, in_range, is_entry, is_optional_byte, version_in_range, within_limits}
+use Rattle.wire_rules.specs.Limits.{IsMessage, in_range, is_entry, version_in_range, within_limits}
 use Rattle.wire_rules.specs.Reading.{diff_in, ended, entry_at, inventory_in, message_by, message_of, named_in, number_at, number_in, request_in, salt_in, sketch_in, tx_in, version_in, with_command}
 use Rattle.wire_rules.specs.declared.faults.PayloadFault.{PayloadFault}
 use Rattle.wire_rules.specs.declared.limits.TheConstants.{LIST_LIMIT, AGENT_LIMIT, PAYLOAD_LIMIT}

@@ -8,8 +8,8 @@ use Rattle.std.proofs.lemmas.List.{length-append}
 use Rattle.std.proofs.lemmas.Nat.{from_le_bytes-to_le_bytes_2, from_le_bytes-to_le_bytes_4, from_le_bytes-to_le_bytes_8}
 use Rattle.wire_rules.specs.Reading.{Spot, Cursor, Read, ◌>>=◌, bytes_at, number_at, signed_at, count_at, behind_mark, wrong, many_at, counted_at, counted_bytes_at, entry_at, flag_at, optional_at}
 use Rattle.wire_rules.specs.Layout.{compact_size, counted, entry_bytes, flag_byte, optional_byte, signed_bytes}
-use Rattle.wire_rules.specs.Limits.{are_bytes_of, fits_signed, is_entry}
-use Rattle.id_rules.specs.Bytes.{are_bytes}
+use Rattle.wire_rules.specs.Limits.{is_entry}
+use Rattle.id_rules.specs.Bytes.{are_bytes, are_bytes_of, fits_signed}
 use Rattle.wire_rules.specs.declared.limits.TheConstants.{LIST_LIMIT}
 use Rattle.wire_rules.specs.declared.message.InvEntry.{InvEntry}
 use Rattle.wire_rules.specs.declared.faults.PayloadKind.TheVariants as fault

@@ -4,10 +4,10 @@ use Rattle.std.specs.List.{list_all}
 use Rattle.std.specs.Int.{Width, w16, w32, w64, to_le_bytes, bytes_low_first, byte_at, byte_len, cast_unsigned}
 use Rattle.std.proofs.lemmas.Bool.{ltb-true, leb-true, eqb-true}
 use Rattle.std.proofs.lemmas.List.{length-append}
-use Rattle.id_rules.specs.Bytes.{are_bytes}
+use Rattle.id_rules.specs.Bytes.{are_bytes, are_bytes_of, fits_signed, is_optional_byte}
 use Rattle.wire_rules.specs.Commands.{word_of, is_filled, command_of, is_command, name_at}
 use Rattle.wire_rules.specs.Layout.{compact_size, counted, diff_payload, entry_bytes, flag_byte, frame_of, inventory, named, optional_byte, signed_bytes, version_payload}
-use Rattle.wire_rules.specs.Limits.{IsFrame, IsMessage, are_bytes_of, fits_signed, in_range, is_entry, is_optional_byte, version_in_range, within_limits}
+use Rattle.wire_rules.specs.Limits.{IsFrame, IsMessage, in_range, is_entry, version_in_range, within_limits}
 use Rattle.wire_rules.specs.declared.limits.TheConstants.{LIST_LIMIT, AGENT_LIMIT, PAYLOAD_LIMIT}
 use Rattle.wire_rules.specs.declared.message.InvEntry.{InvEntry}
 use Rattle.wire_rules.specs.declared.message.Message.{Message}

@@ -5,9 +5,9 @@ use Rattle.std.specs.Int.{Width, w8, w16, w32, w64, to_le_bytes, cast_signed}
 use Rattle.std.proofs.lemmas.Bool.{eqb-true, eqb-false, eq-eqb, leb-false, lt-leb}
 use Rattle.std.proofs.lemmas.Int.{of_z-to_z}
 use Rattle.std.proofs.Math.Facts.{sfits_to_z}
-use Rattle.id_rules.specs.Bytes.{are_bytes}
+use Rattle.id_rules.specs.Bytes.{are_bytes, are_bytes_of, fits_signed, is_optional_byte}
 use Rattle.wire_rules.specs.Layout.{compact_size, counted, entry_bytes, flag_byte, optional_byte, signed_bytes}
-use Rattle.wire_rules.specs.Limits.{are_bytes_of, fits_signed, is_entry, is_optional_byte}
+use Rattle.wire_rules.specs.Limits.{is_entry}
 use Rattle.wire_rules.specs.Reading.{Cursor, Read, ◌>>=◌, wrong, bytes_at, number_at, marked_at, behind_mark, count_at, many_at, counted_at, counted_bytes_at, entry_at, flag_at, flag_of, optional_at, signed_at, ended, start}
 use Rattle.wire_rules.specs.declared.faults.PayloadKind.TheVariants as fault
 use Rattle.wire_rules.specs.declared.limits.TheConstants.{LIST_LIMIT}

@@ -3,6 +3,7 @@ use Rattle.std.proofs.Common.{List, ℕ, [], ◌∷◌, pos, Some, replicate}
 use Rattle.std.specs.Prelude.{codes}
 use Rattle.std.specs.Fmt.{digits}
 use Rattle.base_types.specs.declared.lists.Hash32.{Hash32}
+use Rattle.line_rules.specs.Numbers.{digits_onto as number_onto}
 use Rattle.id_rules.proofs.Samples.{hashing, from_digits}
 use Rattle.wire_rules.specs.Commands.{word_of, is_filled}
 use Rattle.wire_rules.specs.Layout.{compact_size, frame_of}
@@ -10,7 +11,7 @@ use Rattle.wire_rules.specs.Limits.{within_limits, in_range}
 use Rattle.wire_rules.specs.Reading.{bytes_at, count_at, many_at, entry_at, flag_at, optional_at, ended, version_in, salt_in, request_in, sketch_in, diff_in, inventory_in, number_in, named_in}
 use Rattle.wire_rules.specs.Stream.{header_fault, by_sum, by_payload, by_header, by_length, read_message, read_front, read_stream}
 use Rattle.wire_rules.specs.Shown.{words_of}
-use Rattle.wire_rules.specs.ShownReading.{fields_of, digits_onto as number_onto, entry_of, each_of, version_said, said, message_said}
+use Rattle.wire_rules.specs.ShownReading.{fields_of, entry_of, each_of, version_said, said, message_said}
 use Rattle.wire_rules.specs.declared.message.InvEntry.{InvEntry}
 use Rattle.wire_rules.specs.declared.message.VersionMsg.{VersionMsg}
 

@@ -1,8 +1,7 @@
 -- Which frames and messages may be sent.
-use Rattle.std.specs.Prelude.{ℕ, ◌^◌, ◌≤◌, ◌==◌, ◌&&◌, nat_lt, nat_le, not, is_some, Bool, true, IsTrue, List, length, ℤ, pos, negsuc, Some, None}
+use Rattle.std.specs.Prelude.{◌^◌, ◌≤◌, ◌&&◌, nat_lt, nat_le, not, is_some, Bool, true, IsTrue, length}
 use Rattle.std.specs.List.{list_all}
-use Rattle.std.specs.declared.option.Option.{Option}
-use Rattle.id_rules.specs.Bytes.{are_bytes, is_tx_length}
+use Rattle.id_rules.specs.Bytes.{are_bytes, are_bytes_of, is_optional_byte, fits_signed, is_tx_length}
 use Rattle.wire_rules.specs.Commands.{is_command, name_at}
 use Rattle.wire_rules.specs.declared.limits.TheConstants.{PAYLOAD_LIMIT, LIST_LIMIT, AGENT_LIMIT}
 use Rattle.wire_rules.specs.declared.frame.Frame.{Frame}
@@ -25,21 +24,8 @@ within_limits other = true
 
 -- the ranges that the types of a message's fields have
 
--- so many bytes
-abbrev pub are_bytes_of : ℕ → List ℕ → Bool
-are_bytes_of n bytes = (length bytes == n) && are_bytes bytes
-
--- a signed number of n bits and a sign
-abbrev pub fits_signed : ℕ → ℤ → Bool
-fits_signed n (pos k) = nat_lt k (2 ^ n)
-fits_signed n (negsuc k) = nat_lt k (2 ^ n)
-
 abbrev pub is_entry : InvEntry → Bool
 is_entry e = nat_lt e.kind (2 ^ 32) && are_bytes_of 32 e.id.0
-
-abbrev pub is_optional_byte : Option ℕ → Bool
-is_optional_byte None = true
-is_optional_byte (Some b) = nat_lt b (2 ^ 8)
 
 abbrev pub version_in_range : VersionMsg → Bool
 version_in_range v =

@@ -2,10 +2,11 @@
 -- bytes are lower-case digits, and `-` stands for no bytes.
 use Rattle.std.specs.Prelude.{◌≡◌, ℕ, Bool, true, false, List, [], ◌∷◌, ◌++◌, Some, None, map, codes}
 use Rattle.std.specs.List.{join_with_byte}
-use Rattle.std.specs.Int.{w32, w64, to_be_bytes}
+use Rattle.std.specs.Int.{w64, to_be_bytes}
 use Rattle.std.specs.Fmt.{decimal, signed_decimal}
 use Rattle.std.specs.declared.option.Option.{Option}
 use Rattle.hex.specs.Hex.{encode_lower}
+use Rattle.line_rules.specs.Digits.{eight_digits}
 use Rattle.wire_rules.specs.Commands.{word_of}
 use Rattle.wire_rules.specs.Limits.{IsMessage}
 use Rattle.wire_rules.specs.declared.name.Name.TheVariants as name
@@ -17,10 +18,6 @@ use Rattle.wire_rules.specs.declared.message.Message.TheVariants as message
 abbrev pub bytes_word : List ℕ → List ℕ
 bytes_word [] = codes "-"
 bytes_word (b ∷ rest) = encode_lower (b ∷ rest)
-
--- a short id, the most significant digit first
-abbrev pub short_word : ℕ → List ℕ
-short_word n = encode_lower (to_be_bytes w32 n)
 
 -- a salt, the most significant digit first
 abbrev pub salt_word : ℕ → List ℕ
@@ -52,7 +49,7 @@ words_of (message.SendTxRcncl version salt) = word_of name.SendTxRcncl ∷ decim
 words_of (message.ReqRecon size q) = word_of name.ReqRecon ∷ decimal size ∷ decimal q ∷ []
 words_of (message.Sketch bytes) = word_of name.Sketch ∷ bytes_word bytes ∷ []
 words_of message.ReqSketchExt = word_of name.ReqSketchExt ∷ []
-words_of (message.ReconcilDiff success asks) = word_of name.ReconcilDiff ∷ flag_word success ∷ map short_word asks
+words_of (message.ReconcilDiff success asks) = word_of name.ReconcilDiff ∷ flag_word success ∷ map eight_digits asks
 words_of (message.Inv es) = word_of name.Inv ∷ map entry_word es
 words_of (message.GetData es) = word_of name.GetData ∷ map entry_word es
 words_of (message.NotFound es) = word_of name.NotFound ∷ map entry_word es

@@ -1,11 +1,12 @@
 -- The message whose shown text a line is: the message that its fields seem to say, where that one is shown as the line.
-use Rattle.std.specs.Prelude.{ℕ, zero, suc, ◌+◌, ◌-◌, ◌*◌, ◌==◌, ◌&&◌, nat_le, Bool, true, false, if◌then◌else◌, List, [], ◌∷◌, ℤ, pos, negsuc, Some, None, Ok, Err, codes, bytes_eq}
+use Rattle.std.specs.Prelude.{ℕ, zero, suc, ◌==◌, ◌&&◌, Bool, true, false, if◌then◌else◌, List, [], ◌∷◌, ℤ, pos, negsuc, Some, None, Ok, Err, codes, bytes_eq}
 use Rattle.std.specs.List.{before_first, after_first}
 use Rattle.std.specs.Int.{w32, w64, from_be_bytes}
 use Rattle.std.specs.declared.option.Option.{Option}
 use Rattle.std.specs.declared.result.Result.{Result}
 use Rattle.hex.specs.Hex.{decode_of}
 use Rattle.hex.specs.declared.error.FromHexError.{FromHexError}
+use Rattle.line_rules.specs.Numbers.{number_of}
 use Rattle.wire_rules.specs.Commands.{name_of_word}
 use Rattle.wire_rules.specs.Limits.{is_message}
 use Rattle.wire_rules.specs.Shown.{shown}
@@ -29,17 +30,6 @@ in_front b (field ∷ more) = (b ∷ field) ∷ more
 unfoldable pub fields_of : List ℕ → List (List ℕ)
 fields_of [] = [] ∷ []
 fields_of (b ∷ rest) = if b == 32 then [] ∷ fields_of rest else in_front b (fields_of rest)
-
-abbrev pub is_digit : ℕ → Bool
-is_digit b = nat_le 48 b && nat_le b 57
-
--- the number of some digits, behind those of n
-unfoldable pub digits_onto : ℕ → List ℕ → Option ℕ
-digits_onto n [] = Some n
-digits_onto n (b ∷ rest) = if is_digit b then digits_onto (n * 10 + (b - 48)) rest else None
-
-abbrev pub number_of : List ℕ → Option ℕ
-number_of word = digits_onto 0 word
 
 -- the number below 0 of this size
 abbrev pub negated : ℕ → Option ℤ

@@ -1,7 +1,8 @@
--- Digits of bytes in a line of text.
+-- Hexadecimal digits in a line of text.
 use Rattle.std.specs.Prelude.{ℕ, List, Ok, Err}
+use Rattle.std.specs.Int.{to_be_bytes, w32}
 use Rattle.std.specs.declared.result.Result.{Result}
-use Rattle.hex.specs.Hex.{decode_of}
+use Rattle.hex.specs.Hex.{decode_of, encode_lower}
 use Rattle.hex.specs.declared.error.FromHexError.{FromHexError}
 use Rattle.hex.specs.declared.error.FromHexError.TheVariants as hex
 use Rattle.base_types.specs.declared.text.Kind.{Kind}
@@ -24,3 +25,7 @@ kinded (Err e) = Err (kind_of e)
 -- the bytes that digits of either case spell, two digits each
 abbrev pub bytes_in : List ℕ → Result (List ℕ) Kind
 bytes_in text = kinded (decode_of text)
+
+-- the 8 digits of a number of 32 bits, the most significant first, in lower case
+abbrev pub eight_digits : ℕ → List ℕ
+eight_digits n = encode_lower (to_be_bytes w32 n)

@@ -1,9 +1,9 @@
--- Digits as a line, cut again.
-use Rattle.std.proofs.Common.{◌≡◌, ◌≢◌, ℕ, ◌+◌, ◌<◌, List, [], ◌∷◌, ◌++◌, length, true, refl, sym, ap, subst, ◌∙◌, arith}
-use Rattle.std.specs.List.{All}
-use Rattle.std.proofs.lemmas.Bool.{ne_eqb}
+-- Texts as lines, cut again.
+use Rattle.std.proofs.Common.{◌≡◌, ◌≢◌, ℕ, ◌+◌, ◌<◌, List, [], ◌∷◌, ◌++◌, ◌==◌, ◌&&◌, not, length, true, refl, sym, ap, subst, ◌∙◌, arith}
+use Rattle.std.specs.List.{All, list_all}
+use Rattle.std.proofs.lemmas.Bool.{and_parts, eqb-false, ne_eqb, not-true}
 use Rattle.std.proofs.lemmas.List.{append-nil}
-use Rattle.std.proofs.lemmas.List.Elements.{All-head, All-tail}
+use Rattle.std.proofs.lemmas.List.Elements.{All-cons, All-head, All-nil, All-tail}
 use Rattle.hex.specs.Hex.{IsBytes, encode_lower, is_hex_digit}
 use Rattle.hex.proofs.HexLemmas.{decode_of-encode_lower, decode_of-ok}
 use Rattle.line_rules.specs.Lines.{line, lines, lines_of, numbered}
@@ -11,6 +11,14 @@ use Rattle.line_rules.specs.Lines.{line, lines, lines_of, numbered}
 -- neither LF nor CR
 abbrev pub IsPlain : ℕ → Type 0
 IsPlain b = (b ≢ 10) × (b ≢ 13)
+
+-- a text of which each byte is tested to be so
+pub plain_since-tested : (text : List ℕ) → list_all (λ b. not (b == 10) && not (b == 13)) text ≡ true → All IsPlain text
+plain_since-tested [] h = All-nil IsPlain
+plain_since-tested (b ∷ rest) h =
+    let parts = and_parts (not (b == 10) && not (b == 13)) (list_all (λ c. not (c == 10) && not (c == 13)) rest) h in
+    let both = and_parts (not (b == 10)) (not (b == 13)) parts.0 in
+    All-cons IsPlain b rest (eqb-false b 10 (not-true (b == 10) both.0), eqb-false b 13 (not-true (b == 13) both.1)) (plain_since-tested rest parts.1)
 
 -- a digit is neither
 digit_plain : (b : ℕ) → is_hex_digit b ≡ true → IsPlain b

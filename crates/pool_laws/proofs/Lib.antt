@@ -1,0 +1,5 @@
+pub mod Ids
+pub mod Capacity
+pub mod Insertions
+pub mod Written
+pub mod Read
