@@ -1,0 +1,5 @@
+pub mod Lists
+pub mod Ids
+pub mod Rooms
+pub mod Numbers
+pub mod Rows
