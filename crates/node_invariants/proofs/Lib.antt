@@ -3,3 +3,4 @@ pub mod Ids
 pub mod Rooms
 pub mod Numbers
 pub mod Rows
+pub mod Stores
