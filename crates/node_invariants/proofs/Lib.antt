@@ -4,3 +4,5 @@ pub mod Rooms
 pub mod Numbers
 pub mod Rows
 pub mod Stores
+pub mod Early
+pub mod Sets

@@ -80,7 +80,7 @@ lack_taken pool t (x ∷ xs) h out =
 
 -- ---- no id twice
 
-unlisted_filter : (t : Hash32 → Bool) (ids : List Hash32) (id : Hash32) → listed ids id ≡ false → listed (filter t ids) id ≡ false
+pub unlisted_filter : (t : Hash32 → Bool) (ids : List Hash32) (id : Hash32) → listed ids id ≡ false → listed (filter t ids) id ≡ false
 unlisted_filter t [] id h = h
 unlisted_filter t (x ∷ xs) id h =
     let parts = or_parts (same_id x id) (listed xs id) h in
