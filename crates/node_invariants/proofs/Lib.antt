@@ -6,3 +6,5 @@ pub mod Rows
 pub mod Stores
 pub mod Early
 pub mod Sets
+pub mod Stages
+pub mod Bounds

@@ -2,7 +2,7 @@
 use Rattle.std.proofs.Common.{◌≡◌, ⊎_elim, cond, ℕ, zero, suc, ◌+◌, ◌-◌, ◌*◌, ◌/◌, ◌%◌, ◌^◌, ◌<◌, ◌≤◌, ◌==◌, ◌||◌, min, nat_lt, Bool, true, false, List, [], ◌∷◌, ◌++◌, length, filter, refl, sym, ap, ◌∙◌, subst, arith, lit<, lit≤, mod-lt, le-leb, if◌then◌else◌, eq-eqb, eqb-true, ne_eqb, slice_index, pos_of_ne-zero}
 use Rattle.std.specs.Int.{to_le_bytes, to_be_bytes, byte_at, bytes_low_first, bytes_high_first, w32, div_ceil}
 use Rattle.std.specs.List.{AllByRecursion}
-use Rattle.std.proofs.lemmas.Bool.{and_from, or_cases, or_left, or_right, or_parts, not-true, both_ways, false_from_ne_true, cond_both, eqb-false}
+use Rattle.std.proofs.lemmas.Bool.{and_from, and_parts, ltb-true, or_cases, or_left, or_right, or_parts, not-true, both_ways, false_from_ne_true, cond_both, eqb-false}
 use Rattle.std.proofs.lemmas.Nat.{div_below}
 use Rattle.std.proofs.lemmas.List.{length-map}
 use Rattle.std.proofs.lemmas.List.Folds.{list_all-append}
@@ -10,7 +10,7 @@ use Rattle.sha2.specs.Sha256.{sha256, digest_bytes, final_hash, initial_hash_256
 use Rattle.sha2.proofs.Facts256.{length-sha256}
 use Rattle.base_types.specs.declared.lists.Hash32.{Hash32}
 use Rattle.sketch_rules.specs.Answers.{Rises}
-use Rattle.sketch_rules.specs.Sketches.{bytes_of}
+use Rattle.sketch_rules.specs.Sketches.{bytes_of, sums_in}
 use Rattle.id_rules.specs.Bytes.{are_bytes}
 use Rattle.id_rules.specs.Ids.{wtxid}
 use Rattle.wire_rules.specs.Limits.{are_bytes_of}
@@ -198,3 +198,21 @@ sha_bytes m = digest_are (final_hash initial_hash_256 m) 8
 -- an id has 32 bytes
 pub wtxid_bytes : (tx : List ℕ) → are_bytes_of 32 (wtxid tx).0 ≡ true
 wtxid_bytes tx = and_from (length (sha256 (sha256 tx)) == 32) (are_bytes (sha256 (sha256 tx))) (eq-eqb (length (sha256 (sha256 tx))) 32 (length-sha256 (sha256 tx))) (sha_bytes (sha256 tx))
+
+-- sums that bytes spell have 32 bits
+pub sums_small : (bytes : List ℕ) → are_bytes bytes ≡ true → AllByRecursion (λ n. n < 2 ^ 32) (sums_in bytes)
+unfolding sums_in
+sums_small [] h = tt
+sums_small (a ∷ []) h = tt
+sums_small (a ∷ b ∷ []) h = tt
+sums_small (a ∷ b ∷ c ∷ []) h = tt
+sums_small (a ∷ b ∷ c ∷ d ∷ rest) h =
+    let of_a = and_parts (nat_lt a (2 ^ 8)) (are_bytes (b ∷ c ∷ d ∷ rest)) h in
+    let of_b = and_parts (nat_lt b (2 ^ 8)) (are_bytes (c ∷ d ∷ rest)) of_a.1 in
+    let of_c = and_parts (nat_lt c (2 ^ 8)) (are_bytes (d ∷ rest)) of_b.1 in
+    let of_d = and_parts (nat_lt d (2 ^ 8)) (are_bytes rest) of_c.1 in
+    let a_small = ltb-true a (2 ^ 8) of_a.0 in
+    let b_small = ltb-true b (2 ^ 8) of_b.0 in
+    let c_small = ltb-true c (2 ^ 8) of_c.0 in
+    let d_small = ltb-true d (2 ^ 8) of_d.0 in
+    (omega (arith, a_small, b_small, c_small, d_small), sums_small rest of_d.1)
