@@ -8,3 +8,4 @@ pub mod Early
 pub mod Sets
 pub mod Stages
 pub mod Bounds
+pub mod Conversing
