@@ -9,3 +9,4 @@ pub mod Sets
 pub mod Stages
 pub mod Bounds
 pub mod Conversing
+pub mod Reports
