@@ -8,3 +8,6 @@ pub mod Early
 pub mod Sets
 pub mod Stages
 pub mod Bounds
+pub mod Fitting
+pub mod Sendable
+pub mod Sending
