@@ -29,6 +29,7 @@ use Rattle.node_rules.specs.Turns.{Turn, moved, after_response}
 use Rattle.node_rules.specs.declared.config.Config.{Config}
 use Rattle.node_rules.specs.declared.end.End.{End}
 use Rattle.node_rules.specs.declared.end.End.TheVariants as end
+use Rattle.node_invariants.proofs.Lists.{all_append}
 use Rattle.node_invariants.proofs.Numbers.{mine_few, next_q_small, sums_small}
 use Rattle.node_invariants.proofs.Rows.{Rows, Awaits, takes-rows, adds-rows, begins-rows}
 use Rattle.node_invariants.proofs.Stages.{Rests, greeting-rests, greeted-rests, idle-rests, barrier-rests, behind-rests, is_idle-rests, is_barrier-rests, settled-asked, settled-given, asked-waiting, given-waiting, given-sent, asked-sent, given-unasked, some_is}
@@ -44,10 +45,6 @@ pub record IsJoined (r : Round) (n : ℕ) : Type 0 where
   pub most : r.capacity ≤ FIRST_LIMIT
   pub sums : length r.sums ≡ capacity_after r.capacity n
   pub numbers : AllByRecursion (λ n. n < 2 ^ 32) r.sums
-
-all_join : (P : ℕ → Type 0) (xs ys : List ℕ) → AllByRecursion P xs → AllByRecursion P ys → AllByRecursion P (xs ++ ys)
-all_join P [] ys h k = k
-all_join P (x ∷ xs) ys h k = (h.0, all_join P xs ys h.1 k)
 
 -- twice as many
 double : (c n : ℕ) → capacity_after c n + capacity_after c n ≡ capacity_after c (suc n)
@@ -75,7 +72,7 @@ joined-is (suc n) m k set bytes b e f ranged =
     let before = old.sums in
     let both = length-append m.round.sums (sums_in bytes) in
     let two = double m.round.capacity n in
-    record { most = old.most; sums = omega (arith, long, four, before, both, two); numbers = all_join (λ n. n < 2 ^ 32) m.round.sums (sums_in bytes) old.numbers (sums_small bytes ranged) }
+    record { most = old.most; sums = omega (arith, long, four, before, both, two); numbers = all_append (λ n. n < 2 ^ 32) m.round.sums (sums_in bytes) old.numbers (sums_small bytes ranged) }
 
 found_answer : (r : Round) (none : Bool) (es : List ℕ) → (if none then None else answer_of (combined r)) ≡ Some es → Answer 32 (combined r) es
 found_answer r true es e = absurd (let apart : None ≡ Some es = e in cc)
@@ -199,7 +196,7 @@ module _ (s : NodeState) (b : IsBounded s.machine s.requests) where
   plain_round_bounded idle = resting (record s.machine { phase = phase.Barrier }) (one_more s.requests) barrier-rests b.least b.most (rested s.machine s.requests b (is_idle-rests s.machine.phase idle)) b.coefficient begun_small
 
 -- the level of a connection
-pub level-bounds : (c : Config) (o : Option Offer) → IsConfig c → ((x : Offer) → o ≡ Some x → IsOffer x) → (1 ≤ level_of c.top o) × (level_of c.top o ≤ 2)
+level-bounds : (c : Config) (o : Option Offer) → IsConfig c → ((x : Offer) → o ≡ Some x → IsOffer x) → (1 ≤ level_of c.top o) × (level_of c.top o ≤ 2)
 unfolding level_of
 level-bounds c None h f = (lit≤ tt, lit≤ tt)
 level-bounds c (Some x) h f = let own = h.least in let most = h.most in let other = (f x refl).least in (omega (arith, own, other), omega (arith, most))

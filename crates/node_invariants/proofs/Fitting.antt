@@ -10,7 +10,7 @@ use Rattle.pool_rules.specs.Snapshots.{Member, ids_of}
 use Rattle.pool_rules.specs.declared.limits.TheConstants.{POOL_LIMIT}
 use Rattle.node_rules.specs.Invariant.{IsMember, AreMembers}
 use Rattle.node_invariants.proofs.Ids.{all_listed}
-use Rattle.node_invariants.proofs.Lists.{all_kept}
+use Rattle.node_invariants.proofs.Lists.{all_filter, filter_few}
 use Rattle.node_invariants.proofs.Numbers.{ids_within, wtxid_bytes}
 use Rattle.node_invariants.proofs.Rooms.{pool_listed}
 use Rattle.node_invariants.proofs.Sets.{pooled_ids}
@@ -38,16 +38,8 @@ members_announce keys pool ms p h = record { few = members_fit keys pool ms p.co
 
 -- some of them
 
-few_members : (t : Member → Bool) (ms : List Member) → length (filter t ms) ≤ length ms
-few_members t [] = omega arith
-few_members t (m ∷ ms) = cond_both (t m) (m ∷ filter t ms) (filter t ms) (λ zs. length zs ≤ length (m ∷ ms)) (λ e. let le = few_members t ms in omega arith) (λ e. let le = few_members t ms in omega arith)
-
-ids_filter : (t : Member → Bool) (ms : List Member) → AllByRecursion (λ m. IsId m.id) ms → AllByRecursion (λ m. IsId m.id) (filter t ms)
-ids_filter t [] h = tt
-ids_filter t (m ∷ ms) h = all_kept (λ m. IsId m.id) (t m) m (filter t ms) h.0 (ids_filter t ms h.1)
-
 pub part_announces : (t : Member → Bool) (ms : List Member) → Announces ms → Announces (filter t ms)
-part_announces t ms a = record { few = let le = few_members t ms in let few = a.few in omega (arith, le, few); ids = ids_filter t ms a.ids }
+part_announces t ms a = record { few = let le = filter_few t ms in let few = a.few in omega (arith, le, few); ids = all_filter (λ m. IsId m.id) t ms a.ids }
 
 pub ids_fit : (ms : List Member) → AllByRecursion (λ m. IsId m.id) ms → AllByRecursion IsId (ids_of ms)
 ids_fit [] h = tt

@@ -22,7 +22,8 @@ use Rattle.node_rules.specs.declared.config.Config.{Config}
 use Rattle.node_rules.specs.declared.config.Role.{Role}
 use Rattle.node_rules.specs.declared.config.Role.TheVariants as role
 use Rattle.node_invariants.proofs.Fitting.{Announces, ids_fit}
-use Rattle.node_invariants.proofs.Lists.{all_append}
+use Rattle.node_invariants.proofs.Ids.{first_or_later}
+use Rattle.node_invariants.proofs.Lists.{all_append, filter_few}
 use Rattle.node_invariants.proofs.Numbers.{sums_bytes}
 use Rattle.node_invariants.proofs.Rooms.{without_few}
 use Rattle.node_invariants.proofs.Stores.{IsId}
@@ -122,10 +123,6 @@ merged_few [] ys = omega arith
 merged_few (x ∷ xs) [] = omega arith
 merged_few (x ∷ xs) (y ∷ ys) = let le = merged_few xs ys in omega arith
 
-filter_few : (t : ℕ → Bool) (xs : List ℕ) → length (filter t xs) ≤ length xs
-filter_few t [] = omega arith
-filter_few t (x ∷ xs) = cond_both (t x) (x ∷ filter t xs) (filter t xs) (λ zs. length zs ≤ length (x ∷ xs)) (λ e. let le = filter_few t xs in omega arith) (λ e. let le = filter_few t xs in omega arith)
-
 rising_small : (low : ℕ) (es : List ℕ) → Rises low (2 ^ 32) es → list_all (λ n. nat_lt n (2 ^ 32)) es ≡ true
 unfolding Rises
 rising_small low [] h = refl
@@ -156,15 +153,10 @@ tx_sent : (t : Held) → IsHeld t → IsMessage (message.Tx t.bytes)
 unfolding within_limits in_range
 tx_sent t h = record { within = h.sized; ranged = h.bytes }
 
-found_first : (b : Bool) (t : Held) (ts : List Held) (id : Hash32) (tx : List ℕ) → IsHeld t → (bytes_of_id ts id ≡ Some tx → IsMessage (message.Tx tx)) → option_map (λ x. x.bytes) (cond b (Some t) (find (λ x. same_id x.id id) ts)) ≡ Some tx
-    → IsMessage (message.Tx tx)
-found_first true t ts id tx h rest e = subst (λ xs. IsMessage (message.Tx xs)) (let same : t.bytes ≡ tx = cc in same) (tx_sent t h)
-found_first false t ts id tx h rest e = rest e
-
 -- the transaction of an id
 found_sent : (pool : List Held) (id : Hash32) (tx : List ℕ) → AllByRecursion IsHeld pool → bytes_of_id pool id ≡ Some tx → IsMessage (message.Tx tx)
 found_sent [] id tx each e = absurd (let apart : None ≡ Some tx = e in cc)
-found_sent (t ∷ ts) id tx each e = found_first (same_id t.id id) t ts id tx each.0 (found_sent ts id tx each.1) e
+found_sent (t ∷ ts) id tx each e = first_or_later (IsMessage (message.Tx tx)) t ts id tx e (λ same bytes. subst (λ xs. IsMessage (message.Tx xs)) bytes (tx_sent t each.0)) (found_sent ts id tx each.1)
 
 -- what a request has come to
 pub record Served (v : Serving) (n : ℕ) : Type 0 where
