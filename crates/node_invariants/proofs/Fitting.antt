@@ -1,11 +1,9 @@
 -- A node's set and snapshot have no more members than its pool has transactions, and their ids have 32 bytes.
-use Rattle.std.proofs.Common.{◌≡◌, ℕ, ◌≤◌, Bool, true, false, List, [], ◌∷◌, length, map, filter, refl, sym, ◌∙◌, subst, arith}
+use Rattle.std.proofs.Common.{◌≤◌, Bool, List, [], ◌∷◌, length, filter, sym, ◌∙◌, subst, arith}
 use Rattle.std.specs.List.{AllByRecursion}
-use Rattle.std.proofs.lemmas.Bool.{cond_both}
 use Rattle.std.proofs.lemmas.List.{length-map}
-use Rattle.base_types.specs.declared.lists.Hash32.{Hash32}
 use Rattle.id_rules.specs.Ids.{KeyPair}
-use Rattle.pool_rules.specs.Pools.{Held, IsHeld, IsPool, in_pool, pool_ids}
+use Rattle.pool_rules.specs.Pools.{Held, IsHeld, IsPool, pool_ids}
 use Rattle.pool_rules.specs.Snapshots.{Member, ids_of}
 use Rattle.pool_rules.specs.declared.limits.TheConstants.{POOL_LIMIT}
 use Rattle.node_rules.specs.Invariant.{IsMember, AreMembers}
@@ -17,7 +15,7 @@ use Rattle.node_invariants.proofs.Sets.{pooled_ids}
 use Rattle.node_invariants.proofs.Stores.{IsId}
 
 -- members that may be announced
-pub record Announces (ms : List Member) : Type 0 where
+pub record IsAnnounceable (ms : List Member) : Type 0 where
   pub few : length ms ≤ POOL_LIMIT
   pub ids : AllByRecursion (λ m. IsId m.id) ms
 
@@ -33,12 +31,12 @@ member_ids : (keys : KeyPair) (pool : List Held) (ms : List Member) → AllByRec
 member_ids keys pool [] each h = tt
 member_ids keys pool (m ∷ ms) each h = (all_listed IsId (pool_ids pool) (pool_fits pool each) m.id (sym (pool_listed pool m.id) ∙ h.0.pooled), member_ids keys pool ms each h.1)
 
-pub members_announce : (keys : KeyPair) (pool : List Held) (ms : List Member) → IsPool pool → AreMembers keys pool ms → Announces ms
+pub members_announce : (keys : KeyPair) (pool : List Held) (ms : List Member) → IsPool pool → AreMembers keys pool ms → IsAnnounceable ms
 members_announce keys pool ms p h = record { few = members_fit keys pool ms p.count h; ids = member_ids keys pool ms p.each h.each }
 
 -- some of them
 
-pub part_announces : (t : Member → Bool) (ms : List Member) → Announces ms → Announces (filter t ms)
+pub part_announces : (t : Member → Bool) (ms : List Member) → IsAnnounceable ms → IsAnnounceable (filter t ms)
 part_announces t ms a = record { few = let le = filter_few t ms in let few = a.few in omega (arith, le, few); ids = all_filter (λ m. IsId m.id) t ms a.ids }
 
 pub ids_fit : (ms : List Member) → AllByRecursion (λ m. IsId m.id) ms → AllByRecursion IsId (ids_of ms)

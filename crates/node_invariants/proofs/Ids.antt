@@ -1,8 +1,8 @@
 -- Lists of ids.
-use Rattle.std.proofs.Common.{ℕ, Option, Some, option_map, find, ◌≡◌, ◌||◌, not, Bool, true, false, cond, List, [], ◌∷◌, ◌++◌, refl, sym, ap, ap₂, ◌∙◌, subst, ⊎_elim}
+use Rattle.std.proofs.Common.{ℕ, Some, option_map, find, ◌≡◌, ◌||◌, not, Bool, true, false, cond, List, [], ◌∷◌, ◌++◌, refl, sym, ap, ap₂, ◌∙◌, subst, ⊎_elim}
 use Rattle.std.specs.List.{AllByRecursion}
 use Rattle.std.specs.Cmp.Lexicographic.{bytes_decides}
-use Rattle.std.proofs.lemmas.Bool.{or_cases, or_left, or_right, or_parts, not-true, not-false, both_ways, false_from_ne_true, cond_both}
+use Rattle.std.proofs.lemmas.Bool.{or_cases, or_left, or_right, or_parts, not-true, both_ways, false_from_ne_true, cond_both}
 use Rattle.std.proofs.lemmas.List.{map-append}
 use Rattle.std.proofs.lemmas.List.Folds.{list_any-append}
 use Rattle.base_types.specs.declared.lists.Hash32.{Hash32}

@@ -1,5 +1,5 @@
 -- Messages that may be sent, one kind at a time.
-use Rattle.std.proofs.Common.{◌≡◌, ℕ, zero, suc, ◌+◌, ◌*◌, ◌^◌, ◌<◌, ◌≤◌, ◌&&◌, nat_lt, nat_le, not, length, Bool, true, false, List, [], ◌∷◌, ◌++◌, map, filter, find, option_map, cond, Option, Some, None, refl, sym, ap₂, ◌∙◌, subst, arith, lit≤, le-leb}
+use Rattle.std.proofs.Common.{◌≡◌, ℕ, suc, ◌+◌, ◌*◌, ◌^◌, ◌<◌, ◌≤◌, ◌&&◌, nat_lt, nat_le, not, length, Bool, true, false, List, [], ◌∷◌, ◌++◌, map, filter, Option, Some, None, refl, sym, ap₂, ◌∙◌, subst, arith, lit≤, le-leb}
 use Rattle.std.specs.List.{AllByRecursion, list_all}
 use Rattle.std.proofs.lemmas.Bool.{and_parts, and_from, lt-ltb, cond_both}
 use Rattle.std.proofs.lemmas.List.{length-append, length-map}
@@ -12,7 +12,7 @@ use Rattle.wire_rules.specs.Limits.{IsMessage, within_limits, in_range, is_entry
 use Rattle.wire_rules.specs.declared.limits.TheConstants.{LIST_LIMIT}
 use Rattle.wire_rules.specs.declared.message.InvEntry.{InvEntry}
 use Rattle.wire_rules.specs.declared.message.Message.TheVariants as message
-use Rattle.pool_rules.specs.Pools.{Held, IsHeld, same_id, listed, without, bytes_of_id}
+use Rattle.pool_rules.specs.Pools.{Held, IsHeld, listed, without, bytes_of_id}
 use Rattle.pool_rules.specs.Snapshots.{Member, ids_of}
 use Rattle.node_rules.specs.Handshake.{introduction, opening, own_version, reply}
 use Rattle.node_rules.specs.Invariant.{IsConfig}
@@ -21,7 +21,7 @@ use Rattle.node_rules.specs.Turns.{inv_of, getdata_of, notfound_of, entry}
 use Rattle.node_rules.specs.declared.config.Config.{Config}
 use Rattle.node_rules.specs.declared.config.Role.{Role}
 use Rattle.node_rules.specs.declared.config.Role.TheVariants as role
-use Rattle.node_invariants.proofs.Fitting.{Announces, ids_fit}
+use Rattle.node_invariants.proofs.Fitting.{IsAnnounceable, ids_fit}
 use Rattle.node_invariants.proofs.Ids.{first_or_later}
 use Rattle.node_invariants.proofs.Lists.{all_append, filter_few}
 use Rattle.node_invariants.proofs.Numbers.{sums_bytes}
@@ -139,11 +139,11 @@ pub sent_asks : (t : ℕ → Bool) (es : List ℕ) → length es ≤ LIST_LIMIT 
 sent_asks t es le h = sent_diff true (filter t es) (let f = filter_few t es in omega (arith, f, le)) (filter_small t es (rising_small 1 es h))
 
 -- members are announced
-pub sent_ids : (ms : List Member) → Announces ms → AllByRecursion IsMessage (inv_of (ids_of ms))
+pub sent_ids : (ms : List Member) → IsAnnounceable ms → AllByRecursion IsMessage (inv_of (ids_of ms))
 sent_ids ms a = sent_inv (ids_of ms) (subst (λ n. n ≤ LIST_LIMIT) (sym (length-map ms (λ m. m.id))) a.few) (ids_fit ms a.ids)
 
 -- what ends an opener's round
-pub sent_end : (success : Bool) (shorts : List ℕ) (ms : List Member) (number : ℕ) → IsMessage (message.ReconcilDiff success shorts) → Announces ms → number < 2 ^ 64
+pub sent_end : (success : Bool) (shorts : List ℕ) (ms : List Member) (number : ℕ) → IsMessage (message.ReconcilDiff success shorts) → IsAnnounceable ms → number < 2 ^ 64
     → AllByRecursion IsMessage (message.ReconcilDiff success shorts ∷ (inv_of (ids_of ms) ++ message.Ping number ∷ []))
 sent_end success shorts ms number diff a lt = (diff, all_append IsMessage (inv_of (ids_of ms)) (message.Ping number ∷ []) (sent_ids ms a) (sent_ping number lt, tt))
 
@@ -159,25 +159,25 @@ found_sent [] id tx each e = absurd (let apart : None ≡ Some tx = e in cc)
 found_sent (t ∷ ts) id tx each e = first_or_later (IsMessage (message.Tx tx)) t ts id tx e (λ same bytes. subst (λ xs. IsMessage (message.Tx xs)) bytes (tx_sent t each.0)) (found_sent ts id tx each.1)
 
 -- what a request has come to
-pub record Served (v : Serving) (n : ℕ) : Type 0 where
+pub record IsSendableServing (v : Serving) (n : ℕ) : Type 0 where
   pub sent : AllByRecursion IsMessage v.sent
   pub missing : list_all is_entry v.missing ≡ true
   pub few : length v.missing ≤ n
 
-missed : (e : InvEntry) (v : Serving) (n : ℕ) → is_entry e ≡ true → Served v n → Served (record v { missing = v.missing ++ e ∷ [] }) (suc n)
+missed : (e : InvEntry) (v : Serving) (n : ℕ) → is_entry e ≡ true → IsSendableServing v n → IsSendableServing (record v { missing = v.missing ++ e ∷ [] }) (suc n)
 missed e v n h f = record {
   sent = f.sent;
   missing = list_all-append is_entry v.missing (e ∷ []) ∙ and_from (list_all is_entry v.missing) (list_all is_entry (e ∷ [])) f.missing (and_from (is_entry e) true h refl);
   few = let le = f.few in let long = length-append v.missing (e ∷ []) in omega (arith, le, long);
 }
 
-served_sent : (may : Bool) (tx : Option (List ℕ)) (pool : List Held) (e : InvEntry) (v : Serving) (n : ℕ) → AllByRecursion IsHeld pool → bytes_of_id pool e.id ≡ tx → is_entry e ≡ true → Served v n → Served (served_by may tx e v) (suc n)
+served_sent : (may : Bool) (tx : Option (List ℕ)) (pool : List Held) (e : InvEntry) (v : Serving) (n : ℕ) → AllByRecursion IsHeld pool → bytes_of_id pool e.id ≡ tx → is_entry e ≡ true → IsSendableServing v n → IsSendableServing (served_by may tx e v) (suc n)
 unfolding served_by
 served_sent true (Some tx) pool e v n each found h f = record { sent = all_append IsMessage v.sent (message.Tx tx ∷ []) f.sent (found_sent pool e.id tx each found, tt); missing = f.missing; few = let le = f.few in omega arith }
 served_sent true None pool e v n each found h f = missed e v n h f
 served_sent false tx pool e v n each found h f = missed e v n h f
 
-pub serves_sent : (pool : List Held) (v : Serving) (es : List InvEntry) (n : ℕ) → AllByRecursion IsHeld pool → list_all is_entry es ≡ true → Served v n → Served (serves pool v es) (n + length es)
+pub serves_sent : (pool : List Held) (v : Serving) (es : List InvEntry) (n : ℕ) → AllByRecursion IsHeld pool → list_all is_entry es ≡ true → IsSendableServing v n → IsSendableServing (serves pool v es) (n + length es)
 unfolding serves
 serves_sent pool v [] n each h f = record { sent = f.sent; missing = f.missing; few = let le = f.few in omega arith }
 serves_sent pool v (e ∷ es) n each h f =

@@ -1,18 +1,18 @@
 -- What a node sends may be sent.
-use Rattle.std.proofs.Common.{◌≡◌, ℕ, zero, suc, ◌+◌, ◌*◌, ◌%◌, ◌^◌, ◌<◌, ◌≤◌, ◌||◌, nat_lt, not, length, Bool, true, false, List, [], ◌∷◌, ◌++◌, Some, Ok, refl, sym, ap, ◌∙◌, subst, arith, lit<, lit≤, mod-lt}
-use Rattle.std.specs.List.{AllByRecursion, list_all}
+use Rattle.std.proofs.Common.{◌≡◌, ℕ, zero, suc, ◌+◌, ◌^◌, ◌<◌, ◌≤◌, ◌||◌, nat_lt, not, length, Bool, true, false, List, [], ◌∷◌, Some, refl, sym, subst, arith, lit<, lit≤, mod-lt}
+use Rattle.std.specs.List.{AllByRecursion}
 use Rattle.std.proofs.lemmas.Bool.{leb-true, ltb-true}
 use Rattle.std.proofs.lemmas.List.{length-map}
 use Rattle.sketch_rules.specs.Elements.{numbers}
 use Rattle.sketch_laws.proofs.EverySums.{length-sums_from}
-use Rattle.wire_rules.specs.Limits.{IsMessage, within_limits, in_range, is_entry}
+use Rattle.wire_rules.specs.Limits.{IsMessage, within_limits, in_range}
 use Rattle.wire_rules.specs.declared.limits.TheConstants.{LIST_LIMIT}
 use Rattle.wire_rules.specs.declared.message.InvEntry.{InvEntry}
 use Rattle.wire_rules.specs.declared.message.Message.{Message}
 use Rattle.wire_rules.specs.declared.message.Message.TheVariants as message
 use Rattle.pool_rules.specs.Pools.{Held, IsHeld, held, pool_ids}
-use Rattle.pool_rules.specs.Snapshots.{Member, sketched_shorts, snapshot_sketch, snapshot_sums, is_single}
-use Rattle.node_rules.specs.Accepter.{taken, first_sketch, extends, resolved, offered}
+use Rattle.pool_rules.specs.Snapshots.{sketched_shorts, snapshot_sketch, snapshot_sums, is_single}
+use Rattle.node_rules.specs.Accepter.{taken, first_sketch, extends, offered}
 use Rattle.node_rules.specs.Additions.{adds}
 use Rattle.node_rules.specs.Handshake.{opening_messages}
 use Rattle.node_rules.specs.Invariant.{IsConfig, IsNode}
@@ -26,11 +26,11 @@ use Rattle.node_rules.specs.Turns.{inv_of, getdata_of, notfound_of}
 use Rattle.node_rules.specs.declared.config.Config.{Config}
 use Rattle.node_rules.specs.declared.config.Role.{Role}
 use Rattle.node_invariants.proofs.Bounds.{answer-is, joined-is, sketched-round}
-use Rattle.node_invariants.proofs.Fitting.{Announces, members_announce, part_announces, pool_fits}
+use Rattle.node_invariants.proofs.Fitting.{IsAnnounceable, members_announce, part_announces, pool_fits}
 use Rattle.node_invariants.proofs.Lists.{all_append, all_left}
 use Rattle.node_invariants.proofs.Numbers.{wtxid_bytes}
 use Rattle.node_invariants.proofs.Rooms.{lack_all, lack_append}
-use Rattle.node_invariants.proofs.Rows.{Rows, Awaits, IsAddable, IsNews, takes-rows, adds-rows, begins-rows}
+use Rattle.node_invariants.proofs.Rows.{EachRow, IsAwaitingSketch, IsNews, takes-rows, adds-rows, begins-rows}
 use Rattle.node_invariants.proofs.Sendable.{reply_sent, opening_sent, sent_inv, sent_getdata, sent_notfound, news_few, announced_few, sent_ping, sent_pong, sent_request, sent_extension, sent_sketch, sent_failure, merged_few, sent_asks, sent_ids, sent_end, serves_sent}
 use Rattle.node_invariants.proofs.Stores.{IsId, fresh_ids}
 
@@ -41,20 +41,20 @@ few_after c (suc (suc zero)) h k = omega arith
 few_after c (suc (suc (suc n))) h k = absurd (omega arith)
 
 module _ (s : NodeState) (h : IsNode s) where
-  set_announces : Announces s.set
+  set_announces : IsAnnounceable s.set
   set_announces = members_announce (node_keys s) s.pool s.set h.store.pool h.setup.set
 
-  snapshot_announces : Announces s.machine.round.snapshot
+  snapshot_announces : IsAnnounceable s.machine.round.snapshot
   snapshot_announces = members_announce (node_keys s) s.pool s.machine.round.snapshot h.store.pool h.setup.snapshot
 
-  joined_announces : (n : ℕ) (bytes : List ℕ) → Announces (joined s.machine s.set n bytes).snapshot
+  joined_announces : (n : ℕ) (bytes : List ℕ) → IsAnnounceable (joined s.machine s.set n bytes).snapshot
   unfolding joined
   joined_announces zero bytes = set_announces
   joined_announces (suc n) bytes = snapshot_announces
 
   -- ---- an opener
 
-  answer_out : (n : ℕ) (bytes es : List ℕ) → Awaits s n bytes → answer_to (joined s.machine s.set n bytes) ≡ Some es
+  answer_out : (n : ℕ) (bytes es : List ℕ) → IsAwaitingSketch s n bytes → answer_to (joined s.machine s.set n bytes) ≡ Some es
       → AllByRecursion IsMessage (answered (initiator_of s) (joined s.machine s.set n bytes) n es (left_over n s.set)).out
   answer_out n bytes es a e =
       let r : Round = joined s.machine s.set n bytes in
@@ -126,7 +126,7 @@ module _ (s : NodeState) (h : IsNode s) where
 
   -- ---- the steps
 
-  sending_rows : Rows s (λ t. AllByRecursion IsMessage t.out)
+  sending_rows : EachRow s (λ t. AllByRecursion IsMessage t.out)
   sending_rows = record {
     stays = tt;
     ends = λ e. tt;

@@ -2,7 +2,7 @@
 -- peer is known to have.
 use Rattle.std.proofs.Common.{◌≡◌, cond, ℕ, zero, suc, Bool, true, false, not, List, [], ◌∷◌, ◌++◌, filter, Option, Some, None, Ok, refl, sym, ap, ◌∙◌, subst}
 use Rattle.std.specs.List.{AllByRecursion}
-use Rattle.std.proofs.lemmas.Bool.{or_left, or_right, or_parts, not-true, both_ways, false_from_ne_true}
+use Rattle.std.proofs.lemmas.Bool.{or_left, or_right, or_parts, not-true, both_ways}
 use Rattle.std.proofs.lemmas.List.{map-append}
 use Rattle.base_types.specs.declared.lists.Hash32.{Hash32}
 use Rattle.id_rules.specs.Ids.{KeyPair, keys_of}
@@ -14,18 +14,18 @@ use Rattle.pool_rules.specs.Snapshots.{Member, member_of, members, ids_of}
 use Rattle.node_rules.specs.Additions.{adds, pooled, in_set}
 use Rattle.node_rules.specs.Barrier.{asks}
 use Rattle.node_rules.specs.Handshake.{level_of, through, with_peer}
-use Rattle.node_rules.specs.Invariant.{IsMember, AreMembers, IsSetUp, IsConversing, IsEarly, IsStore}
+use Rattle.node_rules.specs.Invariant.{IsMember, AreMembers, IsSetUp, IsConversing, IsEarly}
 use Rattle.node_rules.specs.Inventory.{announced, is_known, news, without_announced, with_wanted, with_asked, still_asking}
 use Rattle.node_rules.specs.Opener.{joined, left_over, asks_more}
-use Rattle.node_rules.specs.State.{NodeState, Machine, Offer, node_keys, open_wants, opening_state, salt_of, initiator_of}
+use Rattle.node_rules.specs.State.{NodeState, Offer, node_keys, open_wants, opening_state, salt_of, initiator_of}
 use Rattle.node_rules.specs.Steps.{takes, begins}
 use Rattle.node_rules.specs.Turns.{moved}
 use Rattle.node_rules.specs.declared.config.Config.{Config}
-use Rattle.node_invariants.proofs.Early.{greeting-early, greeted-early, early-wants, early-snapshot}
-use Rattle.node_invariants.proofs.Ids.{one_alone, same_self, both_false, all_listed, listed_all, listed_append, in_own_pool, in_pool_append, in_pool_more, distinct_both, new_kept, unlisted}
+use Rattle.node_invariants.proofs.Early.{greeted-early, early-wants, early-snapshot}
+use Rattle.node_invariants.proofs.Ids.{one_alone, same_self, both_false, listed_all, listed_append, in_own_pool, in_pool_append, in_pool_more, distinct_both, new_kept, unlisted}
 use Rattle.node_invariants.proofs.Lists.{all_append, all_filter, all_weaker, filter_passed}
 use Rattle.node_invariants.proofs.Rooms.{distinct_filter, unlisted_filter}
-use Rattle.node_invariants.proofs.Rows.{Rows, IsAddable, takes-rows, adds-rows, begins-rows}
+use Rattle.node_invariants.proofs.Rows.{EachRow, takes-rows, adds-rows, begins-rows}
 
 -- ---- members
 
@@ -135,11 +135,11 @@ module _ (s : NodeState) (h : IsSetUp s) where
 
   -- ---- a sketch
 
-  record LeftOver (set : List Member) : Type 0 where
+  record IsLeftOver (set : List Member) : Type 0 where
     pub are : AreMembers k s.pool set
     pub unknown : AreApart (open_wants s) set
 
-  left-over : (n : ℕ) → LeftOver (left_over n s.set)
+  left-over : (n : ℕ) → IsLeftOver (left_over n s.set)
   unfolding left_over
   left-over zero = record { are = none_members k s.pool; unknown = tt }
   left-over (suc n) = record { are = h.set; unknown = h.unknown }
@@ -240,7 +240,7 @@ module _ (s : NodeState) (h : IsSetUp s) where
 
 -- ---- the steps
 
-setup_rows : (s : NodeState) → IsSetUp s → IsConversing s → Distinct (pool_ids s.pool) → Rows s (λ t. IsSetUp t.state)
+setup_rows : (s : NodeState) → IsSetUp s → IsConversing s → Distinct (pool_ids s.pool) → EachRow s (λ t. IsSetUp t.state)
 setup_rows s h c d = record {
   stays = h;
   ends = λ e. record { set = h.set; snapshot = h.snapshot; apart = h.apart; unknown = h.unknown };
