@@ -1,5 +1,5 @@
 -- The numbers of a node's machine stay within their limits.
-use Rattle.std.proofs.Common.{◌≡◌, ℕ, zero, suc, ◌+◌, ◌*◌, ◌/◌, ◌%◌, ◌^◌, ◌<◌, ◌≤◌, ◌==◌, ◌&&◌, nat_lt, nat_le, min, not, Bool, true, false, List, [], ◌∷◌, ◌++◌, length, Option, Some, None, Ok, if◌then◌else◌, refl, sym, ap, ◌∙◌, subst, arith, lit<, lit≤, mod-lt, mul_assoc, pow-suc, eqb-true}
+use Rattle.std.proofs.Common.{◌≡◌, ℕ, zero, suc, ◌+◌, ◌*◌, ◌%◌, ◌^◌, ◌<◌, ◌≤◌, ◌==◌, nat_lt, nat_le, not, Bool, true, false, List, length, Option, Some, None, Ok, if◌then◌else◌, refl, sym, ap, ◌∙◌, subst, arith, lit<, lit≤, mod-lt, mul_assoc, pow-suc, eqb-true}
 use Rattle.std.specs.List.{AllByRecursion}
 use Rattle.std.proofs.lemmas.Bool.{and_parts, ltb-true, leb-true, not-true, eqb-false}
 use Rattle.std.proofs.lemmas.List.{length-append}
@@ -11,7 +11,6 @@ use Rattle.wire_rules.specs.Limits.{IsMessage}
 use Rattle.wire_rules.specs.declared.message.Message.{Message}
 use Rattle.wire_rules.specs.declared.phase.Phase.{Phase}
 use Rattle.wire_rules.specs.declared.phase.Phase.TheVariants as phase
-use Rattle.pool_rules.specs.Capacity.{capacity}
 use Rattle.pool_rules.specs.Pools.{Held, IsHeld, held}
 use Rattle.pool_rules.specs.Snapshots.{Member, sketched_shorts}
 use Rattle.pool_rules.specs.declared.limits.TheConstants.{FIRST_LIMIT}
@@ -25,13 +24,14 @@ use Rattle.node_rules.specs.Outcomes.{mine_in, asks_in}
 use Rattle.node_rules.specs.Stages.{waiting, sent, asked_for, given, capacity_after, is_idle}
 use Rattle.node_rules.specs.State.{NodeState, Machine, Requests, Round, Offer, no_round, first_requests, extensions_allowed, initiator_of, opening_state}
 use Rattle.node_rules.specs.Steps.{takes, begins}
-use Rattle.node_rules.specs.Turns.{Turn, moved, after_response}
+use Rattle.node_rules.specs.Turns.{Turn, moved}
 use Rattle.node_rules.specs.declared.config.Config.{Config}
 use Rattle.node_rules.specs.declared.end.End.{End}
 use Rattle.node_rules.specs.declared.end.End.TheVariants as end
+use Rattle.node_invariants.proofs.Lists.{all_append}
 use Rattle.node_invariants.proofs.Numbers.{mine_few, next_q_small, sums_small}
-use Rattle.node_invariants.proofs.Rows.{Rows, Awaits, takes-rows, adds-rows, begins-rows}
-use Rattle.node_invariants.proofs.Stages.{Rests, greeting-rests, greeted-rests, idle-rests, barrier-rests, behind-rests, is_idle-rests, is_barrier-rests, settled-asked, settled-given, asked-waiting, given-waiting, given-sent, asked-sent, given-unasked, some_is}
+use Rattle.node_invariants.proofs.Rows.{EachRow, IsAwaitingSketch, takes-rows, adds-rows, begins-rows}
+use Rattle.node_invariants.proofs.Stages.{HasNoSketch, greeting-rests, greeted-rests, idle-rests, barrier-rests, behind-rests, is_idle-rests, is_barrier-rests, settled-asked, settled-given, asked-waiting, given-waiting, given-sent, asked-sent, given-unasked, some_is}
 
 -- ---- a sketch that has come
 
@@ -44,10 +44,6 @@ pub record IsJoined (r : Round) (n : ℕ) : Type 0 where
   pub most : r.capacity ≤ FIRST_LIMIT
   pub sums : length r.sums ≡ capacity_after r.capacity n
   pub numbers : AllByRecursion (λ n. n < 2 ^ 32) r.sums
-
-all_join : (P : ℕ → Type 0) (xs ys : List ℕ) → AllByRecursion P xs → AllByRecursion P ys → AllByRecursion P (xs ++ ys)
-all_join P [] ys h k = k
-all_join P (x ∷ xs) ys h k = (h.0, all_join P xs ys h.1 k)
 
 -- twice as many
 double : (c n : ℕ) → capacity_after c n + capacity_after c n ≡ capacity_after c (suc n)
@@ -75,7 +71,7 @@ joined-is (suc n) m k set bytes b e f ranged =
     let before = old.sums in
     let both = length-append m.round.sums (sums_in bytes) in
     let two = double m.round.capacity n in
-    record { most = old.most; sums = omega (arith, long, four, before, both, two); numbers = all_join (λ n. n < 2 ^ 32) m.round.sums (sums_in bytes) old.numbers (sums_small bytes ranged) }
+    record { most = old.most; sums = omega (arith, long, four, before, both, two); numbers = all_append (λ n. n < 2 ^ 32) m.round.sums (sums_in bytes) old.numbers (sums_small bytes ranged) }
 
 found_answer : (r : Round) (none : Bool) (es : List ℕ) → (if none then None else answer_of (combined r)) ≡ Some es → Answer 32 (combined r) es
 found_answer r true es e = absurd (let apart : None ≡ Some es = e in cc)
@@ -87,7 +83,7 @@ answer-is r es e = found_answer r (r.capacity == 0) es e
 -- ---- machines
 
 -- with no round
-resting : (m : Machine) (k : Requests) → Rests m.phase → 1 ≤ m.level → m.level ≤ 2 → m.round ≡ no_round → k.coefficient ≤ 65534 → k.begun < 2 ^ 64 → IsBounded m k
+resting : (m : Machine) (k : Requests) → HasNoSketch m.phase → 1 ≤ m.level → m.level ≤ 2 → m.round ≡ no_round → k.coefficient ≤ 65534 → k.begun < 2 ^ 64 → IsBounded m k
 unfolding KeepsRound
 resting m k p least most round coefficient begun = record {
   least = least;
@@ -99,7 +95,7 @@ resting m k p least most round coefficient begun = record {
   begun = begun;
 }
 
-rested : (m : Machine) (k : Requests) → IsBounded m k → Rests m.phase → m.round ≡ no_round
+rested : (m : Machine) (k : Requests) → IsBounded m k → HasNoSketch m.phase → m.round ≡ no_round
 unfolding KeepsRound
 rested m k b p = subst (λ o. KeepsRound None o m.round) p.sent (subst (λ o. KeepsRound o (given m.phase) m.round) p.asked b.round)
 
@@ -145,7 +141,7 @@ module _ (s : NodeState) (b : IsBounded s.machine s.requests) where
   Bounds t = IsBounded t.state.machine t.state.requests
 
   -- another phase and another level, with no round before and behind
-  still_resting : (next : Phase) (level : ℕ) → Rests s.machine.phase → Rests next → 1 ≤ level → level ≤ 2 → IsBounded (record s.machine { phase = next; level = level }) s.requests
+  still_resting : (next : Phase) (level : ℕ) → HasNoSketch s.machine.phase → HasNoSketch next → 1 ≤ level → level ≤ 2 → IsBounded (record s.machine { phase = next; level = level }) s.requests
   still_resting next level p q least most = resting (record s.machine { phase = next; level = level }) s.requests q least most (rested s.machine s.requests b p) b.coefficient b.begun
 
   settled_bounded : (next : Phase) → asked_for next ≡ asked_for s.machine.phase → given next ≡ given s.machine.phase → IsBounded (record s.machine { phase = next }) s.requests
@@ -160,14 +156,14 @@ module _ (s : NodeState) (b : IsBounded s.machine s.requests) where
   }
 
   -- a round is closed
-  closed_bounded : (next : Phase) (reports : List Report) (coefficient : ℕ) → Rests next → coefficient ≤ 65534
+  closed_bounded : (next : Phase) (reports : List Report) (coefficient : ℕ) → HasNoSketch next → coefficient ≤ 65534
       → IsBounded (record s.machine { phase = next; round = no_round; reports = reports }) (record s.requests { coefficient = coefficient })
   closed_bounded next reports coefficient p le = resting (record s.machine { phase = next; round = no_round; reports = reports }) (record s.requests { coefficient = coefficient }) p b.least b.most refl le b.begun
 
   answer_coefficient : (r : Round) (es : List ℕ) → answer_to r ≡ Some es → coefficient_after r.snapshot es ≤ 65534
   answer_coefficient r es e = next_q_small (length (mine_in r.snapshot es)) (length (asks_in r.snapshot es)) (length (sketched_shorts r.snapshot)) (mine_few r.snapshot es (answer-is r es e).rises)
 
-  more_bounded : (n : ℕ) (bytes : List ℕ) → Awaits s n bytes → may_extend s.machine (joined s.machine s.set n bytes) n ≡ true → Bounds (moved s (Ok (asks_more (initiator_of s) (joined s.machine s.set n bytes) n (left_over n s.set))))
+  more_bounded : (n : ℕ) (bytes : List ℕ) → IsAwaitingSketch s n bytes → may_extend s.machine (joined s.machine s.set n bytes) n ≡ true → Bounds (moved s (Ok (asks_more (initiator_of s) (joined s.machine s.set n bytes) n (left_over n s.set))))
   unfolding KeepsRound
   more_bounded n bytes a may =
       let r : Round = joined s.machine s.set n bytes in
@@ -199,20 +195,20 @@ module _ (s : NodeState) (b : IsBounded s.machine s.requests) where
   plain_round_bounded idle = resting (record s.machine { phase = phase.Barrier }) (one_more s.requests) barrier-rests b.least b.most (rested s.machine s.requests b (is_idle-rests s.machine.phase idle)) b.coefficient begun_small
 
 -- the level of a connection
-pub level-bounds : (c : Config) (o : Option Offer) → IsConfig c → ((x : Offer) → o ≡ Some x → IsOffer x) → (1 ≤ level_of c.top o) × (level_of c.top o ≤ 2)
+level-bounds : (c : Config) (o : Option Offer) → IsConfig c → ((x : Offer) → o ≡ Some x → IsOffer x) → (1 ≤ level_of c.top o) × (level_of c.top o ≤ 2)
 unfolding level_of
 level-bounds c None h f = (lit≤ tt, lit≤ tt)
 level-bounds c (Some x) h f = let own = h.least in let most = h.most in let other = (f x refl).least in (omega (arith, own, other), omega (arith, most))
 
-bounded_rows : (s : NodeState) → IsConfig s.config → IsConversing s → IsBounded s.machine s.requests → Rows s (λ t. IsBounded t.state.machine t.state.requests)
+bounded_rows : (s : NodeState) → IsConfig s.config → IsConversing s → IsBounded s.machine s.requests → EachRow s (λ t. IsBounded t.state.machine t.state.requests)
 bounded_rows s config c b = record {
   stays = b;
   ends = λ e. b;
-  version = λ e. still_resting s b phase.Greeted s.machine.level (subst Rests (sym e) greeting-rests) greeted-rests b.least b.most;
+  version = λ e. still_resting s b phase.Greeted s.machine.level (subst HasNoSketch (sym e) greeting-rests) greeted-rests b.least b.most;
   wtxidrelay = λ e. b;
   offer = λ o e is none. b;
-  plain = λ e by_id none. let l = level-bounds s.config None config (λ x k. absurd (let apart : None ≡ Some x = k in cc)) in still_resting s b phase.Idle (level_of s.config.top None) (subst Rests (sym e) greeted-rests) idle-rests l.0 l.1;
-  whole = λ o e by_id some. let l = level-bounds s.config (Some o) config (λ x k. c.offer x (some ∙ k)) in still_resting s b phase.Idle (level_of s.config.top (Some o)) (subst Rests (sym e) greeted-rests) idle-rests l.0 l.1;
+  plain = λ e by_id none. let l = level-bounds s.config None config (λ x k. absurd (let apart : None ≡ Some x = k in cc)) in still_resting s b phase.Idle (level_of s.config.top None) (subst HasNoSketch (sym e) greeted-rests) idle-rests l.0 l.1;
+  whole = λ o e by_id some. let l = level-bounds s.config (Some o) config (λ x k. c.offer x (some ∙ k)) in still_resting s b phase.Idle (level_of s.config.top (Some o)) (subst HasNoSketch (sym e) greeted-rests) idle-rests l.0 l.1;
   answer = λ n bytes es a e. closed_bounded s b phase.Barrier _ _ barrier-rests (answer_coefficient s b (joined s.machine s.set n bytes) es e);
   more = λ n bytes a e. more_bounded s b n bytes a e;
   fallback = λ n bytes a. closed_bounded s b phase.Barrier _ _ barrier-rests (omega arith);

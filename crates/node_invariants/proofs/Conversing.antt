@@ -23,8 +23,8 @@ use Rattle.node_rules.specs.declared.config.Config.{Config}
 use Rattle.node_rules.specs.declared.config.Role.{Role}
 use Rattle.node_rules.specs.declared.config.Role.TheVariants as role
 use Rattle.node_invariants.proofs.Early.{greeting-early, greeted-early}
-use Rattle.node_invariants.proofs.Rows.{Rows, Reconciles, takes-rows, adds-rows, begins-rows}
-use Rattle.node_invariants.proofs.Stages.{Rests, idle-rests, barrier-rests, behind-rests, is_barrier-rests, settled-asked, settled-given}
+use Rattle.node_invariants.proofs.Rows.{EachRow, IsReconciling, takes-rows, adds-rows, begins-rows}
+use Rattle.node_invariants.proofs.Stages.{HasNoSketch, idle-rests, barrier-rests, behind-rests, is_barrier-rests, settled-asked, settled-given}
 
 -- ---- phases behind the handshake
 
@@ -240,13 +240,13 @@ settled_role t role.Accepter s pool k = (k.0, k.1)
 never_plain : (s u : NodeState) → s.plain ≡ false → s.plain ≡ true → IsPlain u
 never_plain s u whole plain = absurd (let apart : false ≡ true = sym whole ∙ plain in cc)
 
-rests-apart : (p : Phase) → Rests p → is_apart_from_sketches (asked_for p) (given p) ≡ true
+rests-apart : (p : Phase) → HasNoSketch p → is_apart_from_sketches (asked_for p) (given p) ≡ true
 unfolding is_apart_from_sketches
 rests-apart p r = subst (λ o. is_apart_from_sketches o (given p) ≡ true) (sym r.asked) (subst (λ o. is_apart_from_sketches None o ≡ true) (sym r.sent) refl)
 
 -- with another machine, other requests and another set
-abbrev changed : NodeState → Phase → Round → List Report → Requests → List Member → NodeState
-changed s next round reports requests set = record s { machine = record s.machine { phase = next; round = round; reports = reports }; requests = requests; set = set }
+abbrev with_machine : NodeState → Phase → Round → List Report → Requests → List Member → NodeState
+with_machine s next round reports requests set = record s { machine = record s.machine { phase = next; round = round; reports = reports }; requests = requests; set = set }
 
 module _ (s : NodeState) (h : IsConversing s) where
   -- ---- the same machine
@@ -299,29 +299,29 @@ module _ (s : NodeState) (h : IsConversing s) where
 
   module _ (next : Phase) (round : Round) (reports : List Report) (requests : Requests) (set : List Member) where
     abbrev after : NodeState
-    after = changed s next round reports requests set
+    after = with_machine s next round reports requests set
 
-    changed_conversing : is_past s.machine.phase ≡ true → is_past next ≡ true → is_phase_of s.config.role next ≡ true → (s.plain ≡ true → IsPlain after) → KeepsRole s.config.role after → IsConversing after
-    changed_conversing past later phase plain r =
+    machine_conversing : is_past s.machine.phase ≡ true → is_past next ≡ true → is_phase_of s.config.role next ≡ true → (s.plain ≡ true → IsPlain after) → KeepsRole s.config.role after → IsConversing after
+    machine_conversing past later phase plain r =
         let i = introduced s h past in
         record { conversation = converses_in next after later (record { relays_by_id = i.relays_by_id; plain = i.plain; level = i.level; phase = phase }); offer = h.offer; plain = plain; role = r }
 
     -- an opener that neither fetches before nor behind
     opener_conversing : s.config.role ≡ role.Opener → is_past s.machine.phase ≡ true → is_fetching s.machine.phase ≡ false → is_past next ≡ true → is_phase_of role.Opener next ≡ true → is_fetching next ≡ false → (s.plain ≡ true → IsPlain after) → IsConversing after
     opener_conversing r past before later phase behind plain =
-        changed_conversing past later (subst (λ x. is_phase_of x next ≡ true) (sym r) phase) plain (is_opener s.config.role after r (behind ∙ (sym before ∙ opener_is s r h.role)))
+        machine_conversing past later (subst (λ x. is_phase_of x next ≡ true) (sym r) phase) plain (is_opener s.config.role after r (behind ∙ (sym before ∙ opener_is s r h.role)))
 
-  accepter_conversing : (next : Phase) (round : Round) (reports : List Report) (set : List Member) → Reconciles role.Accepter s → is_past s.machine.phase ≡ true → is_past next ≡ true → is_phase_of role.Accepter next ≡ true → IsConversing (changed s next round reports s.requests set)
+  accepter_conversing : (next : Phase) (round : Round) (reports : List Report) (set : List Member) → IsReconciling role.Accepter s → is_past s.machine.phase ≡ true → is_past next ≡ true → is_phase_of role.Accepter next ≡ true → IsConversing (with_machine s next round reports s.requests set)
   accepter_conversing next round reports set a past later phase =
-      let u : NodeState = changed s next round reports s.requests set in
+      let u : NodeState = with_machine s next round reports s.requests set in
       let k = accepter_is s a.role h.role in
-      changed_conversing next round reports s.requests set past later (subst (λ x. is_phase_of x next ≡ true) (sym a.role) phase) (never_plain s u a.whole) (is_accepter s.config.role u a.role k.0 k.1)
+      machine_conversing next round reports s.requests set past later (subst (λ x. is_phase_of x next ≡ true) (sym a.role) phase) (never_plain s u a.whole) (is_accepter s.config.role u a.role k.0 k.1)
 
   -- an opener that reconciles goes on
-  waiting_conversing : (n : ℕ) (next : Phase) (round : Round) (reports : List Report) (requests : Requests) (set : List Member) → Reconciles role.Opener s → asked_for s.machine.phase ≡ Some n → is_past next ≡ true → is_phase_of role.Opener next ≡ true → is_fetching next ≡ false
-      → IsConversing (changed s next round reports requests set)
+  waiting_conversing : (n : ℕ) (next : Phase) (round : Round) (reports : List Report) (requests : Requests) (set : List Member) → IsReconciling role.Opener s → asked_for s.machine.phase ≡ Some n → is_past next ≡ true → is_phase_of role.Opener next ≡ true → is_fetching next ≡ false
+      → IsConversing (with_machine s next round reports requests set)
   waiting_conversing n next round reports requests set o e later phase behind =
-      opener_conversing next round reports requests set o.role (asked-past s.machine.phase n e) (asked-unfetching s.machine.phase n e) later phase behind (never_plain s (changed s next round reports requests set) o.whole)
+      opener_conversing next round reports requests set o.role (asked-past s.machine.phase n e) (asked-unfetching s.machine.phase n e) later phase behind (never_plain s (with_machine s next round reports requests set) o.whole)
 
   -- ---- the handshake
 
@@ -379,15 +379,15 @@ pong_row s h r e =
       role = is_opener s.config.role u r (behind-fetching s.wants.asked s.wants.wanted (sym (barrier-unfetching s.machine.phase e) ∙ opener_is s r h.role));
     }
 
-plain_round_row : (s : NodeState) → IsConversing s → (requests : Requests) → s.config.role ≡ role.Opener → is_idle s.machine.phase ≡ true → IsConversing (changed s phase.Barrier s.machine.round s.machine.reports requests s.set)
+plain_round_row : (s : NodeState) → IsConversing s → (requests : Requests) → s.config.role ≡ role.Opener → is_idle s.machine.phase ≡ true → IsConversing (with_machine s phase.Barrier s.machine.round s.machine.reports requests s.set)
 plain_round_row s h requests r idle =
     opener_conversing s h phase.Barrier s.machine.round s.machine.reports requests s.set r (idle-past s.machine.phase idle) (idle-unfetching s.machine.phase idle) barrier_past barrier-opener barrier_unfetching
     (λ k. let p = h.plain k in record { set = p.set; round = p.round; reports = p.reports; phase = rests-apart phase.Barrier barrier-rests })
 
-round_row : (s : NodeState) → IsConversing s → (requests : Requests) → Reconciles role.Opener s → is_idle s.machine.phase ≡ true → IsConversing (changed s (waiting 0) s.machine.round s.machine.reports requests s.set)
+round_row : (s : NodeState) → IsConversing s → (requests : Requests) → IsReconciling role.Opener s → is_idle s.machine.phase ≡ true → IsConversing (with_machine s (waiting 0) s.machine.round s.machine.reports requests s.set)
 round_row s h requests o idle =
     opener_conversing s h (waiting 0) s.machine.round s.machine.reports requests s.set o.role (idle-past s.machine.phase idle) (idle-unfetching s.machine.phase idle) (waiting-past 0) (waiting-opener 0) (waiting-unfetching 0)
-    (never_plain s (changed s (waiting 0) s.machine.round s.machine.reports requests s.set) o.whole)
+    (never_plain s (with_machine s (waiting 0) s.machine.round s.machine.reports requests s.set) o.whole)
 
 some_offer : (o x : Offer) → Some o ≡ Some x → o ≡ x
 some_offer o x e = cc
@@ -407,7 +407,7 @@ addition_row s h set t f =
     (other_either s h set (s.pool ++ t ∷ []) wants s.inbox s.ended f (λ e. ap (λ (w : Wants). record w { wanted = without w.wanted t.id }) e)) (λ k e. f e)
     (other_role s h set (s.pool ++ t ∷ []) wants s.inbox s.ended s.config.role refl (λ e. ap (λ ids. without ids t.id) e) h.role)
 
-conversing_rows : (s : NodeState) → IsConversing s → Rows s (λ t. IsConversing t.state)
+conversing_rows : (s : NodeState) → IsConversing s → EachRow s (λ t. IsConversing t.state)
 conversing_rows s h = record {
   stays = h;
   ends = λ e. other_conversing s h s.set s.pool s.wants s.inbox (Some e) (other_either s h s.set s.pool s.wants s.inbox (Some e) (λ k. k) (λ k. k)) (λ k e. e) (other_role s h s.set s.pool s.wants s.inbox (Some e) s.config.role refl (λ k. k) h.role);

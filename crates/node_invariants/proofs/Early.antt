@@ -1,6 +1,5 @@
 -- What is known of a node before the handshake is over.
 use Rattle.std.proofs.Common.{◌≡◌, [], ◌++◌, ap, subst}
-use Rattle.wire_rules.specs.declared.phase.Phase.{Phase}
 use Rattle.wire_rules.specs.declared.phase.Phase.TheVariants as phase
 use Rattle.node_rules.specs.Invariant.{IsConversing, IsEarly, Converses}
 use Rattle.node_rules.specs.State.{NodeState, Wants, Round, open_wants}

@@ -1,12 +1,12 @@
 -- Lists of ids.
-use Rattle.std.proofs.Common.{◌≡◌, ◌||◌, not, Bool, true, false, cond, List, [], ◌∷◌, ◌++◌, refl, sym, ap, ap₂, ◌∙◌, subst, ⊎_elim}
+use Rattle.std.proofs.Common.{ℕ, Some, option_map, find, ◌≡◌, ◌||◌, not, Bool, true, false, cond, List, [], ◌∷◌, ◌++◌, refl, sym, ap, ap₂, ◌∙◌, subst, ⊎_elim}
 use Rattle.std.specs.List.{AllByRecursion}
 use Rattle.std.specs.Cmp.Lexicographic.{bytes_decides}
-use Rattle.std.proofs.lemmas.Bool.{or_cases, or_left, or_right, or_parts, not-true, not-false, both_ways, false_from_ne_true, cond_both}
+use Rattle.std.proofs.lemmas.Bool.{or_cases, or_left, or_right, or_parts, not-true, both_ways, false_from_ne_true, cond_both}
 use Rattle.std.proofs.lemmas.List.{map-append}
 use Rattle.std.proofs.lemmas.List.Folds.{list_any-append}
 use Rattle.base_types.specs.declared.lists.Hash32.{Hash32}
-use Rattle.pool_rules.specs.Pools.{Held, same_id, listed, without, Distinct, in_pool, pool_ids}
+use Rattle.pool_rules.specs.Pools.{Held, same_id, listed, without, Distinct, in_pool, bytes_of_id, pool_ids}
 use Rattle.node_rules.specs.Inventory.{new_ids}
 use Rattle.node_invariants.proofs.Lists.{all_weaker, all_kept}
 
@@ -15,11 +15,6 @@ same_self id = (bytes_decides id.0 id.0).1 refl
 
 pub same_is : (a b : Hash32) → same_id a b ≡ true → a ≡ b
 same_is a b e = ap (λ x. record { 0 = x }) ((bytes_decides a.0 b.0).0 e)
-
--- one of two, by its tests
-pub false_or : (a b : Bool) → a ≡ false → (a || b) ≡ true → b ≡ true
-false_or true b e h = absurd (let apart : true ≡ false = e in cc)
-false_or false b e h = h
 
 pub both_false : (a b : Bool) → a ≡ false → b ≡ false → (a || b) ≡ false
 both_false a b e h = ap₂ (λ x y. x || y) e h
@@ -35,9 +30,6 @@ all_listed P (x ∷ xs) h id e =
 pub listed_all : (P : Hash32 → Type 0) (ids : List Hash32) → ((id : Hash32) → listed ids id ≡ true → P id) → AllByRecursion P ids
 listed_all P [] f = tt
 listed_all P (x ∷ xs) f = (f x (or_left (same_id x x) (listed xs x) (same_self x)), listed_all P xs (λ id e. f id (or_right (same_id x id) (listed xs id) e)))
-
-pub listed_head : (x : Hash32) (xs : List Hash32) → listed (x ∷ xs) x ≡ true
-listed_head x xs = or_left (same_id x x) (listed xs x) (same_self x)
 
 -- ids that lack a property are not among those that have it
 pub unlisted : (P : Hash32 → Type 0) (ids : List Hash32) (id : Hash32) → AllByRecursion P ids → (P id → ⊥) → listed ids id ≡ false
@@ -94,27 +86,15 @@ distinct_both (x ∷ xs) ys d e h =
     let out : listed ys x ≡ false = false_from_ne_true (listed ys x) (λ k. both_ways (same_id x x) (or_parts (same_id x x) (listed xs x) (all_listed (λ id. listed (x ∷ xs) id ≡ false) ys h x k)).0 (same_self x)) in
     (ap not (listed_append xs ys x ∙ both_false (listed xs x) (listed ys x) (not-true (listed xs x) d.0) out), distinct_both xs ys d.1 e tails)
 
+pub one_alone : (id : Hash32) → Distinct (id ∷ [])
+unfolding Distinct
+one_alone id = (refl, tt)
+
 -- ---- a list without an id
 
-pub without_kept : (P : Hash32 → Type 0) (ids : List Hash32) (id : Hash32) → AllByRecursion P ids → AllByRecursion P (without ids id)
+without_kept : (P : Hash32 → Type 0) (ids : List Hash32) (id : Hash32) → AllByRecursion P ids → AllByRecursion P (without ids id)
 without_kept P [] id h = tt
 without_kept P (x ∷ xs) id h = all_kept P (not (same_id x id)) x (without xs id) h.0 (without_kept P xs id h.1)
-
--- an id that isn't listed leaves the list as it is
-without_absent : (id : Hash32) (ids : List Hash32) → listed ids id ≡ false → without ids id ≡ ids
-without_absent id [] h = refl
-without_absent id (x ∷ xs) h =
-    let s = or_parts (same_id x id) (listed xs id) h in
-    ap (λ b. cond (not b) (x ∷ without xs id) (without xs id)) s.0 ∙ ap (λ ys. x ∷ ys) (without_absent id xs s.1)
-
--- the first of the ids goes
-pub without_first : (id : Hash32) (ids : List Hash32) → Distinct (id ∷ ids) → without (id ∷ ids) id ≡ ids
-unfolding Distinct
-without_first id ids d = ap (λ b. cond (not b) (id ∷ without ids id) (without ids id)) (same_self id) ∙ without_absent id ids (not-true (listed ids id) d.0)
-
-listed_kept : (b : Bool) (x : Hash32) (xs : List Hash32) (id : Hash32) → listed (cond b (x ∷ xs) xs) id ≡ true → listed (x ∷ xs) id ≡ true
-listed_kept true x xs id h = h
-listed_kept false x xs id h = or_right (same_id x id) (listed xs id) h
 
 -- ---- the ids that are new
 
@@ -130,23 +110,12 @@ new_kept P known [] h = tt
 new_kept P known (x ∷ xs) h =
     cond_both (known x) (new_ids known xs) (x ∷ without (new_ids known xs) x) (AllByRecursion P) (λ e. new_kept P known xs h.1) (λ e. (h.0, without_kept P (new_ids known xs) x (new_kept P known xs h.1)))
 
--- an id that isn't known and is among these is new
-pub without_listed : (ids : List Hash32) (x id : Hash32) → same_id x id ≡ false → listed ids id ≡ true → listed (without ids x) id ≡ true
-without_listed [] x id differ h = h
-without_listed (y ∷ ys) x id differ h =
-    cond_both (not (same_id y x)) (y ∷ without ys x) (without ys x) (λ zs. listed zs id ≡ true)
-    (λ e. ⊎_elim (λ here. or_left (same_id y id) (listed (without ys x) id) here) (λ later. or_right (same_id y id) (listed (without ys x) id) (without_listed ys x id differ later)) (or_cases (same_id y id) (listed ys id) h))
-    (λ e. without_listed ys x id differ
-    (false_or (same_id y id) (listed ys id) (subst (λ z. same_id z id ≡ false) (sym (same_is y x (not-false (same_id y x) e))) differ) h))
+-- ---- the transaction of an id
 
-new_head : (b : Bool) (x : Hash32) (ns : List Hash32) (id : Hash32) → same_id x id ≡ b → (same_id x id ≡ false → listed ns id ≡ true) → listed (x ∷ without ns x) id ≡ true
-new_head true x ns id e rest = or_left (same_id x id) (listed (without ns x) id) e
-new_head false x ns id e rest = or_right (same_id x id) (listed (without ns x) id) (without_listed ns x id e (rest e))
-
-pub new_has : (known : Hash32 → Bool) (ids : List Hash32) (id : Hash32) → listed ids id ≡ true → known id ≡ false → listed (new_ids known ids) id ≡ true
-unfolding new_ids
-new_has known [] id h e = h
-new_has known (x ∷ xs) id h e =
-    cond_both (known x) (new_ids known xs) (x ∷ without (new_ids known xs) x) (λ zs. listed zs id ≡ true)
-    (λ k. new_has known xs id (false_or (same_id x id) (listed xs id) (false_from_ne_true (same_id x id) (λ s. both_ways (known id) e (subst (λ z. known z ≡ true) (same_is x id s) k))) h) e)
-    (λ k. new_head (same_id x id) x (new_ids known xs) id refl (λ differ. new_has known xs id (false_or (same_id x id) (listed xs id) differ h) e))
+-- it is the first one's, where that has the id, or a later one's
+pub first_or_later : (C : Type 0) (t : Held) (ts : List Held) (id : Hash32) (tx : List ℕ) → bytes_of_id (t ∷ ts) id ≡ Some tx → (same_id t.id id ≡ true → t.bytes ≡ tx → C) → (bytes_of_id ts id ≡ Some tx → C) → C
+first_or_later C t ts id tx e first later = by_first (same_id t.id id) refl e
+  where
+    by_first : (b : Bool) → same_id t.id id ≡ b → option_map (λ x. x.bytes) (cond b (Some t) (find (λ x. same_id x.id id) ts)) ≡ Some tx → C
+    by_first true same k = first same (let bytes : t.bytes ≡ tx = cc in bytes)
+    by_first false same k = later k

@@ -10,3 +10,6 @@ pub mod Stages
 pub mod Bounds
 pub mod Conversing
 pub mod Reports
+pub mod Fitting
+pub mod Sendable
+pub mod Sending

@@ -17,7 +17,7 @@ use Rattle.wire_rules.specs.Limits.{are_bytes_of}
 use Rattle.pool_rules.specs.Capacity.{next_q}
 use Rattle.pool_rules.specs.Pools.{Held, same_id, listed, Distinct, in_pool, pool_ids}
 use Rattle.node_invariants.proofs.Ids.{same_is, same_self}
-use Rattle.node_invariants.proofs.Lists.{all_weaker}
+use Rattle.node_invariants.proofs.Lists.{all_weaker, all_filter, filter_passed}
 use Rattle.pool_rules.specs.Snapshots.{Member, sketched_shorts}
 use Rattle.node_rules.specs.Outcomes.{mine_in, is_in}
 use Rattle.node_invariants.proofs.Rooms.{pool_listed}
@@ -117,22 +117,11 @@ unfolding Rises Once same_n
 once_rising low high [] h = tt
 once_rising low high (e ∷ es) h = (above e (e + 1) high es h.2 (omega arith), once_rising (e + 1) high es h.2)
 
-all_filtered : (P : ℕ → Type 0) (t : ℕ → Bool) (xs : List ℕ) → AllByRecursion P xs → AllByRecursion P (filter t xs)
-all_filtered P t [] h = tt
-all_filtered P t (x ∷ xs) h = cond_both (t x) (x ∷ filter t xs) (filter t xs) (AllByRecursion P) (λ e. (h.0, all_filtered P t xs h.1)) (λ e. all_filtered P t xs h.1)
-
 once_filter : (t : ℕ → Bool) (es : List ℕ) → Once same_n n_is es → Once same_n n_is (filter t es)
 unfolding Once
 once_filter t [] h = tt
 once_filter t (e ∷ es) h =
-    cond_both (t e) (e ∷ filter t es) (filter t es) (Once same_n n_is) (λ k. (filtered (λ y. same_n e y ≡ false) t es h.0, once_filter t es h.1)) (λ k. once_filter t es h.1)
-  where
-    filtered : (P : ℕ → Type 0) (t : ℕ → Bool) (xs : List ℕ) → AllByRecursion P xs → AllByRecursion P (filter t xs)
-    filtered P t xs h = all_filtered P t xs h
-
-passes : (t : ℕ → Bool) (es : List ℕ) → AllByRecursion (λ n. t n ≡ true) (filter t es)
-passes t [] = tt
-passes t (e ∷ es) = cond_both (t e) (e ∷ filter t es) (filter t es) (AllByRecursion (λ n. t n ≡ true)) (λ k. (k, passes t es)) (λ k. passes t es)
+    cond_both (t e) (e ∷ filter t es) (filter t es) (Once same_n n_is) (λ k. (all_filter (λ y. same_n e y ≡ false) t es h.0, once_filter t es h.1)) (λ k. once_filter t es h.1)
 
 item_in : (xs : List ℕ) (n : ℕ) → has_item same_n n_is xs n ≡ is_in xs n
 unfolding has_item same_n
@@ -143,7 +132,7 @@ item_in (x ∷ xs) n = ap (λ b. (x == n) || b) (item_in xs n)
 pub mine_few : (snapshot : List Member) (es : List ℕ) → Rises 1 (2 ^ 32) es → length (mine_in snapshot es) ≤ length (sketched_shorts snapshot)
 mine_few snapshot es h =
     no_more same_n n_is (mine_in snapshot es) (sketched_shorts snapshot) (once_filter (λ n. is_in (sketched_shorts snapshot) n) es (once_rising 1 (2 ^ 32) es h))
-    (all_weaker (λ n. is_in (sketched_shorts snapshot) n ≡ true) (λ n. has_item same_n n_is (sketched_shorts snapshot) n ≡ true) (λ n e. item_in (sketched_shorts snapshot) n ∙ e) (mine_in snapshot es) (passes (λ n. is_in (sketched_shorts snapshot) n) es))
+    (all_weaker (λ n. is_in (sketched_shorts snapshot) n ≡ true) (λ n. has_item same_n n_is (sketched_shorts snapshot) n ≡ true) (λ n e. item_in (sketched_shorts snapshot) n ∙ e) (mine_in snapshot es) (filter_passed (λ n. is_in (sketched_shorts snapshot) n) es))
 
 -- ---- the next coefficient
 

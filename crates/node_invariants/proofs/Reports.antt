@@ -28,7 +28,7 @@ use Rattle.node_rules.specs.declared.end.End.TheVariants as end
 use Rattle.node_invariants.proofs.Bounds.{joined-is, answer-is, sketched-round}
 use Rattle.node_invariants.proofs.Ids.{in_pool_more}
 use Rattle.node_invariants.proofs.Lists.{all_append, all_kept, all_weaker}
-use Rattle.node_invariants.proofs.Rows.{Rows, Awaits, takes-rows, adds-rows, begins-rows}
+use Rattle.node_invariants.proofs.Rows.{EachRow, IsAwaitingSketch, takes-rows, adds-rows, begins-rows}
 use Rattle.node_invariants.proofs.Sets.{pooled_ids}
 
 -- ---- short ids
@@ -136,7 +136,7 @@ module _ (s : NodeState) (setup : IsSetUp s) (b : IsBounded s.machine s.requests
   one_more_report : (r : Report) → IsReport s.pool r → AllByRecursion (IsReport s.pool) (s.machine.reports ++ r ∷ [])
   one_more_report r k = all_append (IsReport s.pool) s.machine.reports (r ∷ []) h (k, tt)
 
-  answered_reports : (n : ℕ) (bytes : List ℕ) (e : Ending) (ns : List ℕ) → Awaits s n bytes → AreShort ns → AllByRecursion (IsReport s.pool) (s.machine.reports ++ report_of (joined s.machine s.set n bytes) e ns ∷ [])
+  answered_reports : (n : ℕ) (bytes : List ℕ) (e : Ending) (ns : List ℕ) → IsAwaitingSketch s n bytes → AreShort ns → AllByRecursion (IsReport s.pool) (s.machine.reports ++ report_of (joined s.machine s.set n bytes) e ns ∷ [])
   answered_reports n bytes e ns a short =
       let r : Round = joined s.machine s.set n bytes in
       one_more_report (report_of r e ns) (reported (node_keys s) s.pool r e ns (joined_members n bytes) (joined-is n s.machine s.requests s.set bytes b a.waits a.fits a.ranged).most short)
@@ -147,7 +147,7 @@ module _ (s : NodeState) (setup : IsSetUp s) (b : IsBounded s.machine s.requests
       one_more_report (report_of r (ending_of success n) asks)
       (reported (node_keys s) s.pool r (ending_of success n) asks setup.snapshot (sketched-round s.machine s.requests n b g).most (asks_short success (node_keys s) s.pool r asks setup.snapshot e))
 
-  report_rows : Rows s (λ t. AllByRecursion (IsReport t.state.pool) t.state.machine.reports)
+  report_rows : EachRow s (λ t. AllByRecursion (IsReport t.state.pool) t.state.machine.reports)
   report_rows = record {
     stays = h;
     ends = λ e. h;

@@ -8,7 +8,7 @@ use Rattle.base_types.specs.declared.lists.Hash32.{Hash32}
 use Rattle.pool_rules.specs.Pools.{Held, same_id, listed, without, Distinct, in_pool, pool_ids}
 use Rattle.node_rules.specs.Inventory.{new_ids}
 use Rattle.node_invariants.proofs.Ids.{same_self, same_is, both_false, all_listed, listed_all, in_pool_append, in_pool_more, distinct_left, distinct_right, distinct_apart, distinct_both}
-use Rattle.node_invariants.proofs.Lists.{all_weaker, all_kept}
+use Rattle.node_invariants.proofs.Lists.{all_weaker, all_filter}
 
 -- how many ids a pool lacks
 abbrev pub lack : List Held → List Hash32 → ℕ
@@ -92,14 +92,10 @@ distinct_filter t [] d = tt
 distinct_filter t (x ∷ xs) d =
     cond_both (t x) (x ∷ filter t xs) (filter t xs) Distinct (λ e. (ap not (unlisted_filter t xs x (not-true (listed xs x) d.0)), distinct_filter t xs d.1)) (λ e. distinct_filter t xs d.1)
 
-pub all_filtered : (P : Hash32 → Type 0) (t : Hash32 → Bool) (ids : List Hash32) → AllByRecursion P ids → AllByRecursion P (filter t ids)
-all_filtered P t [] h = tt
-all_filtered P t (x ∷ xs) h = all_kept P (t x) x (filter t xs) h.0 (all_filtered P t xs h.1)
-
 -- of two lists without common ids, one with fewer
 pub distinct_fewer_right : (t : Hash32 → Bool) (xs ys : List Hash32) → Distinct (xs ++ ys) → Distinct (xs ++ filter t ys)
 distinct_fewer_right t xs ys d =
-    distinct_both xs (filter t ys) (distinct_left xs ys d) (distinct_filter t ys (distinct_right xs ys d)) (all_filtered (λ id. listed xs id ≡ false) t ys (distinct_apart xs ys d))
+    distinct_both xs (filter t ys) (distinct_left xs ys d) (distinct_filter t ys (distinct_right xs ys d)) (all_filter (λ id. listed xs id ≡ false) t ys (distinct_apart xs ys d))
 
 pub distinct_fewer_left : (t : Hash32 → Bool) (xs ys : List Hash32) → Distinct (xs ++ ys) → Distinct (filter t xs ++ ys)
 distinct_fewer_left t xs ys d =

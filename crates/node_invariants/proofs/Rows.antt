@@ -1,8 +1,7 @@
 -- The steps of a node by the rows of its tables: what holds behind each of the rows, whose conditions are met, holds behind
 -- every step.
-use Rattle.std.proofs.Common.{◌≡◌, ℕ, ◌+◌, ◌==◌, nat_lt, nat_le, int_lt, pos, is_some, not, ◌&&◌, ◌||◌, ◌≤◌, ◌<◌, ◌^◌, length, Bool, true, false, List, [], ◌∷◌, ◌++◌, Option, Some, None, Result, Ok, Err, IsTrue, refl, sym, ap, ◌∙◌, arith}
+use Rattle.std.proofs.Common.{◌≡◌, ℕ, ◌+◌, ◌==◌, nat_lt, int_lt, pos, is_some, ◌^◌, length, Bool, true, false, List, [], ◌∷◌, ◌++◌, Option, Some, None, Result, Ok, IsTrue, refl, ap, arith}
 use Rattle.std.proofs.lemmas.Bool.{and_parts, ltb-true, eqb-false}
-use Rattle.base_types.specs.declared.lists.Hash32.{Hash32}
 use Rattle.id_rules.specs.Bytes.{are_bytes}
 use Rattle.id_rules.specs.Ids.{keys_of}
 use Rattle.wire_rules.specs.Commands.{name_of}
@@ -35,13 +34,13 @@ use Rattle.node_rules.specs.declared.end.End.{End}
 use Rattle.node_rules.specs.declared.end.End.TheVariants as end
 
 -- a node that reconciles, in this role
-pub record Reconciles (r : Role) (s : NodeState) : Type 0 where
+pub record IsReconciling (r : Role) (s : NodeState) : Type 0 where
   pub role : s.config.role ≡ r
   pub whole : s.plain ≡ false
 
 -- an opener that waits for these bytes, with n extensions
-pub record Awaits (s : NodeState) (n : ℕ) (bytes : List ℕ) : Type 0 where
-  pub opener : Reconciles role.Opener s
+pub record IsAwaitingSketch (s : NodeState) (n : ℕ) (bytes : List ℕ) : Type 0 where
+  pub opener : IsReconciling role.Opener s
   pub waits : asked_for s.machine.phase ≡ Some n
   pub fits : length_fault s.machine n (length bytes) ≡ None
   pub ranged : IsTrue (are_bytes bytes)
@@ -65,7 +64,7 @@ pub record IsNews (r : Role) (s : NodeState) (es : List InvEntry) : Type 0 where
   pub room : nat_lt POOL_LIMIT (taken_room s + length (news s es)) ≡ false
 
 -- P holds behind each row
-pub record Rows (s : NodeState) (P : Turn → Type 0) : Type 0 where
+pub record EachRow (s : NodeState) (P : Turn → Type 0) : Type 0 where
   pub stays : P (passed s)
   pub ends : (e : End) → P (refused s e)
   -- the handshake
@@ -76,15 +75,15 @@ pub record Rows (s : NodeState) (P : Turn → Type 0) : Type 0 where
   pub whole : (o : Offer) → s.machine.phase ≡ phase.Greeted → s.peer.relays_by_id ≡ true → s.peer.offer ≡ Some o
       → P (passed (through s (level_of s.config.top (Some o)) false (members (keys_of s.config.salt o.salt) (pool_ids s.pool))))
   -- an opener's sketch
-  pub answer : (n : ℕ) (bytes es : List ℕ) → Awaits s n bytes → answer_to (joined s.machine s.set n bytes) ≡ Some es
+  pub answer : (n : ℕ) (bytes es : List ℕ) → IsAwaitingSketch s n bytes → answer_to (joined s.machine s.set n bytes) ≡ Some es
       → P (moved s (Ok (answered (initiator_of s) (joined s.machine s.set n bytes) n es (left_over n s.set))))
-  pub more : (n : ℕ) (bytes : List ℕ) → Awaits s n bytes → may_extend s.machine (joined s.machine s.set n bytes) n ≡ true
+  pub more : (n : ℕ) (bytes : List ℕ) → IsAwaitingSketch s n bytes → may_extend s.machine (joined s.machine s.set n bytes) n ≡ true
       → P (moved s (Ok (asks_more (initiator_of s) (joined s.machine s.set n bytes) n (left_over n s.set))))
-  pub fallback : (n : ℕ) (bytes : List ℕ) → Awaits s n bytes → P (moved s (Ok (fell_back (initiator_of s) (joined s.machine s.set n bytes) (left_over n s.set))))
+  pub fallback : (n : ℕ) (bytes : List ℕ) → IsAwaitingSketch s n bytes → P (moved s (Ok (fell_back (initiator_of s) (joined s.machine s.set n bytes) (left_over n s.set))))
   -- an accepter's requests
-  pub first : (size q : ℕ) → Reconciles role.Accepter s → is_idle s.machine.phase ≡ true → P (after_response s [] (Ok (first_sketch s.machine (taken s.set size q))))
-  pub extension : (n : ℕ) → Reconciles role.Accepter s → given s.machine.phase ≡ Some n → nat_lt n (extensions_allowed s.machine) ≡ true → P (after_response s s.set (Ok (extends s.machine n)))
-  pub difference : (n : ℕ) (success : Bool) (asks : List ℕ) → Reconciles role.Accepter s → given s.machine.phase ≡ Some n → diff_fault success s.machine.round asks ≡ None → IsMessage (message.ReconcilDiff success asks)
+  pub first : (size q : ℕ) → IsReconciling role.Accepter s → is_idle s.machine.phase ≡ true → P (after_response s [] (Ok (first_sketch s.machine (taken s.set size q))))
+  pub extension : (n : ℕ) → IsReconciling role.Accepter s → given s.machine.phase ≡ Some n → nat_lt n (extensions_allowed s.machine) ≡ true → P (after_response s s.set (Ok (extends s.machine n)))
+  pub difference : (n : ℕ) (success : Bool) (asks : List ℕ) → IsReconciling role.Accepter s → given s.machine.phase ≡ Some n → diff_fault success s.machine.round asks ≡ None → IsMessage (message.ReconcilDiff success asks)
       → P (after_response s s.set (Ok (resolved s.machine n success asks)))
   -- inventories and transactions
   pub wants : (es : List InvEntry) → IsNews role.Opener s es → P (passed (with_wanted s (without_announced s.set es) (s.wants.wanted ++ news s es)))
@@ -102,10 +101,10 @@ pub record Rows (s : NodeState) (P : Turn → Type 0) : Type 0 where
   pub announcement : (t : Held) → IsAddable s t → listed (open_wants s) t.id ≡ false → is_past s.machine.phase ≡ true → s.plain ≡ true → P (sends (pooled s t) (inv_of (t.id ∷ [])))
   pub member : (t : Held) → IsAddable s t → listed (open_wants s) t.id ≡ false → is_past s.machine.phase ≡ true → s.plain ≡ false → P (passed (in_set (pooled s t) t.id))
   -- the start of a round
-  pub round : Reconciles role.Opener s → is_idle s.machine.phase ≡ true → P (started s (round_start (initiator_of s) (length s.set)))
+  pub round : IsReconciling role.Opener s → is_idle s.machine.phase ≡ true → P (started s (round_start (initiator_of s) (length s.set)))
   pub plain_round : s.config.role ≡ role.Opener → is_idle s.machine.phase ≡ true → s.plain ≡ true → P (started s (plain_start (initiator_of s)))
 
-module _ (s : NodeState) (P : Turn → Type 0) (rows : Rows s P) where
+module _ (s : NodeState) (P : Turn → Type 0) (rows : EachRow s P) where
   -- ---- the handshake
 
   out_of_place-rows : (n : Option Name) → P (out_of_place s n)
@@ -158,7 +157,7 @@ module _ (s : NodeState) (P : Turn → Type 0) (rows : Rows s P) where
 
   -- ---- rounds, at an opener
 
-  module _ (n : ℕ) (bytes : List ℕ) (awaits : Awaits s n bytes) where
+  module _ (n : ℕ) (bytes : List ℕ) (awaits : IsAwaitingSketch s n bytes) where
     unanswered-rows : (may : Bool) → may_extend s.machine (joined s.machine s.set n bytes) n ≡ may → P (moved s (Ok (unanswered may (initiator_of s) (joined s.machine s.set n bytes) n (left_over n s.set))))
     unfolding unanswered
     unanswered-rows true e = rows.more n bytes awaits e
@@ -173,14 +172,14 @@ module _ (s : NodeState) (P : Turn → Type 0) (rows : Rows s P) where
   unless-rows None m h = h refl
   unless-rows (Some e) m h = rows.ends e
 
-  sketch_by-rows : (o : Option ℕ) (bytes : List ℕ) → asked_for s.machine.phase ≡ o → IsTrue (are_bytes bytes) → Reconciles role.Opener s → P (moved s (sketch_by (joined_answer o s.machine s.set bytes) o (initiator_of s) s.set bytes))
+  sketch_by-rows : (o : Option ℕ) (bytes : List ℕ) → asked_for s.machine.phase ≡ o → IsTrue (are_bytes bytes) → IsReconciling role.Opener s → P (moved s (sketch_by (joined_answer o s.machine s.set bytes) o (initiator_of s) s.set bytes))
   unfolding sketch_by
   sketch_by-rows None bytes e ranged opener = rows.ends (end.Misplaced name.Sketch s.machine.phase)
   sketch_by-rows (Some n) bytes e ranged opener =
       unless-rows (length_fault s.machine n (length bytes)) (after_sketch (answer_to (joined s.machine s.set n bytes)) (initiator_of s) s.set n bytes)
       (λ fits. decided-rows n bytes (record { opener = opener; waits = e; fits = fits; ranged = ranged }) (answer_to (joined s.machine s.set n bytes)) refl)
 
-  opener_row-rows : (r : Role) (plain : Bool) (n : Name) (row : Result Move End) → s.config.role ≡ r → s.plain ≡ plain → (Reconciles role.Opener s → P (moved s row)) → P (opener_row r plain n s row)
+  opener_row-rows : (r : Role) (plain : Bool) (n : Name) (row : Result Move End) → s.config.role ≡ r → s.plain ≡ plain → (IsReconciling role.Opener s → P (moved s row)) → P (opener_row r plain n s row)
   unfolding opener_row
   opener_row-rows role.Opener false n row e f h = h (record { role = e; whole = f })
   opener_row-rows role.Opener true n row e f h = rows.ends (end.Misplaced n s.machine.phase)
@@ -192,34 +191,34 @@ module _ (s : NodeState) (P : Turn → Type 0) (rows : Rows s P) where
 
   -- ---- rounds, at an accepter
 
-  accepter_row-rows : (r : Role) (plain : Bool) (n : Name) (set : List Member) (row : Result Response End) → s.config.role ≡ r → s.plain ≡ plain → (Reconciles role.Accepter s → P (after_response s set row)) → P (accepter_row r plain n s set row)
+  accepter_row-rows : (r : Role) (plain : Bool) (n : Name) (set : List Member) (row : Result Response End) → s.config.role ≡ r → s.plain ≡ plain → (IsReconciling role.Accepter s → P (after_response s set row)) → P (accepter_row r plain n s set row)
   unfolding accepter_row
   accepter_row-rows role.Accepter false n set row e f h = h (record { role = e; whole = f })
   accepter_row-rows role.Accepter true n set row e f h = rows.ends (end.Misplaced n s.machine.phase)
   accepter_row-rows role.Opener plain n set row e f h = rows.ends (end.Misplaced n s.machine.phase)
 
-  reqrecon_by-rows : (idle : Bool) (size q : ℕ) → is_idle s.machine.phase ≡ idle → Reconciles role.Accepter s → P (after_response s [] (reqrecon_by idle s.machine s.set size q))
+  reqrecon_by-rows : (idle : Bool) (size q : ℕ) → is_idle s.machine.phase ≡ idle → IsReconciling role.Accepter s → P (after_response s [] (reqrecon_by idle s.machine s.set size q))
   unfolding reqrecon_by
   reqrecon_by-rows true size q e accepter = rows.first size q accepter e
   reqrecon_by-rows false size q e accepter = rows.ends (end.Misplaced name.ReqRecon s.machine.phase)
 
-  extended_by-rows : (may : Bool) (n : ℕ) → nat_lt n (extensions_allowed s.machine) ≡ may → given s.machine.phase ≡ Some n → Reconciles role.Accepter s → P (after_response s s.set (extended_by may s.machine n))
+  extended_by-rows : (may : Bool) (n : ℕ) → nat_lt n (extensions_allowed s.machine) ≡ may → given s.machine.phase ≡ Some n → IsReconciling role.Accepter s → P (after_response s s.set (extended_by may s.machine n))
   unfolding extended_by
   extended_by-rows true n e g accepter = rows.extension n accepter g e
   extended_by-rows false n e g accepter = rows.ends (end.Misplaced name.ReqSketchExt s.machine.phase)
 
-  extension_after-rows : (o : Option ℕ) → given s.machine.phase ≡ o → Reconciles role.Accepter s → P (after_response s s.set (extension_after o s.machine))
+  extension_after-rows : (o : Option ℕ) → given s.machine.phase ≡ o → IsReconciling role.Accepter s → P (after_response s s.set (extension_after o s.machine))
   unfolding extension_after
   extension_after-rows None e accepter = rows.ends (end.Misplaced name.ReqSketchExt s.machine.phase)
   extension_after-rows (Some n) e accepter = extended_by-rows (nat_lt n (extensions_allowed s.machine)) n refl e accepter
 
-  diff_by-rows : (fault : Option End) (n : ℕ) (success : Bool) (asks : List ℕ) → diff_fault success s.machine.round asks ≡ fault → given s.machine.phase ≡ Some n → IsMessage (message.ReconcilDiff success asks) → Reconciles role.Accepter s
+  diff_by-rows : (fault : Option End) (n : ℕ) (success : Bool) (asks : List ℕ) → diff_fault success s.machine.round asks ≡ fault → given s.machine.phase ≡ Some n → IsMessage (message.ReconcilDiff success asks) → IsReconciling role.Accepter s
       → P (after_response s s.set (diff_by fault s.machine n success asks))
   unfolding diff_by
   diff_by-rows (Some e) n success asks f g m accepter = rows.ends e
   diff_by-rows None n success asks f g m accepter = rows.difference n success asks accepter g f m
 
-  diff_after-rows : (o : Option ℕ) (success : Bool) (asks : List ℕ) → given s.machine.phase ≡ o → IsMessage (message.ReconcilDiff success asks) → Reconciles role.Accepter s → P (after_response s s.set (diff_after o s.machine success asks))
+  diff_after-rows : (o : Option ℕ) (success : Bool) (asks : List ℕ) → given s.machine.phase ≡ o → IsMessage (message.ReconcilDiff success asks) → IsReconciling role.Accepter s → P (after_response s s.set (diff_after o s.machine success asks))
   unfolding diff_after
   diff_after-rows None success asks e m accepter = rows.ends (end.Misplaced name.ReconcilDiff s.machine.phase)
   diff_after-rows (Some n) success asks e m accepter = diff_by-rows (diff_fault success s.machine.round asks) n success asks refl e m accepter

@@ -2,7 +2,7 @@
 -- peer is known to have.
 use Rattle.std.proofs.Common.{◌≡◌, cond, ℕ, zero, suc, Bool, true, false, not, List, [], ◌∷◌, ◌++◌, filter, Option, Some, None, Ok, refl, sym, ap, ◌∙◌, subst}
 use Rattle.std.specs.List.{AllByRecursion}
-use Rattle.std.proofs.lemmas.Bool.{or_left, or_right, or_parts, not-true, both_ways, false_from_ne_true}
+use Rattle.std.proofs.lemmas.Bool.{or_left, or_right, or_parts, not-true, both_ways}
 use Rattle.std.proofs.lemmas.List.{map-append}
 use Rattle.base_types.specs.declared.lists.Hash32.{Hash32}
 use Rattle.id_rules.specs.Ids.{KeyPair, keys_of}
@@ -14,18 +14,18 @@ use Rattle.pool_rules.specs.Snapshots.{Member, member_of, members, ids_of}
 use Rattle.node_rules.specs.Additions.{adds, pooled, in_set}
 use Rattle.node_rules.specs.Barrier.{asks}
 use Rattle.node_rules.specs.Handshake.{level_of, through, with_peer}
-use Rattle.node_rules.specs.Invariant.{IsMember, AreMembers, IsSetUp, IsConversing, IsEarly, IsStore}
+use Rattle.node_rules.specs.Invariant.{IsMember, AreMembers, IsSetUp, IsConversing, IsEarly}
 use Rattle.node_rules.specs.Inventory.{announced, is_known, news, without_announced, with_wanted, with_asked, still_asking}
 use Rattle.node_rules.specs.Opener.{joined, left_over, asks_more}
-use Rattle.node_rules.specs.State.{NodeState, Machine, Offer, node_keys, open_wants, opening_state, salt_of, initiator_of}
+use Rattle.node_rules.specs.State.{NodeState, Offer, node_keys, open_wants, opening_state, salt_of, initiator_of}
 use Rattle.node_rules.specs.Steps.{takes, begins}
 use Rattle.node_rules.specs.Turns.{moved}
 use Rattle.node_rules.specs.declared.config.Config.{Config}
-use Rattle.node_invariants.proofs.Early.{greeting-early, greeted-early, early-wants, early-snapshot}
-use Rattle.node_invariants.proofs.Ids.{same_self, both_false, all_listed, listed_all, listed_append, in_own_pool, in_pool_append, in_pool_more, distinct_both, new_kept, unlisted}
-use Rattle.node_invariants.proofs.Lists.{all_append, all_kept, all_weaker}
+use Rattle.node_invariants.proofs.Early.{greeted-early, early-wants, early-snapshot}
+use Rattle.node_invariants.proofs.Ids.{one_alone, same_self, both_false, listed_all, listed_append, in_own_pool, in_pool_append, in_pool_more, distinct_both, new_kept, unlisted}
+use Rattle.node_invariants.proofs.Lists.{all_append, all_filter, all_weaker, filter_passed}
 use Rattle.node_invariants.proofs.Rooms.{distinct_filter, unlisted_filter}
-use Rattle.node_invariants.proofs.Rows.{Rows, IsAddable, takes-rows, adds-rows, begins-rows}
+use Rattle.node_invariants.proofs.Rows.{EachRow, takes-rows, adds-rows, begins-rows}
 
 -- ---- members
 
@@ -46,22 +46,10 @@ ids_filter t (m ∷ ms) = by_test (t m.id) (filter (λ m. t m.id) ms) (filter t 
     by_test true xs ys e = ap (λ zs. m.id ∷ zs) e
     by_test false xs ys e = e
 
-filter_each : (P : Member → Type 0) (t : Member → Bool) (ms : List Member) → AllByRecursion P ms → AllByRecursion P (filter t ms)
-filter_each P t [] h = tt
-filter_each P t (m ∷ ms) h = all_kept P (t m) m (filter t ms) h.0 (filter_each P t ms h.1)
-
-passed_kept : (b : Bool) (t : Member → Bool) (m : Member) (ms : List Member) → t m ≡ b → AllByRecursion (λ m. t m ≡ true) ms → AllByRecursion (λ m. t m ≡ true) (cond b (m ∷ ms) ms)
-passed_kept true t m ms e h = (e, h)
-passed_kept false t m ms e h = h
-
-filter_passed : (t : Member → Bool) (ms : List Member) → AllByRecursion (λ m. t m ≡ true) (filter t ms)
-filter_passed t [] = tt
-filter_passed t (m ∷ ms) = passed_kept (t m) t m (filter t ms) refl (filter_passed t ms)
-
 filter_members : (keys : KeyPair) (pool : List Held) (t : Hash32 → Bool) (ms : List Member) → AreMembers keys pool ms → AreMembers keys pool (filter (λ m. t m.id) ms)
 filter_members keys pool t ms h = record {
   once = subst Distinct (sym (ids_filter t ms)) (distinct_filter t (ids_of ms) h.once);
-  each = filter_each (IsMember keys pool) (λ m. t m.id) ms h.each;
+  each = all_filter (IsMember keys pool) (λ m. t m.id) ms h.each;
 }
 
 pub pooled_ids : (keys : KeyPair) (pool : List Held) (ms : List Member) → AllByRecursion (IsMember keys pool) ms → AllByRecursion (λ id. in_pool pool id ≡ true) (ids_of ms)
@@ -71,10 +59,6 @@ pooled_ids keys pool (m ∷ ms) h = (h.0.pooled, pooled_ids keys pool ms h.1)
 -- what a pool lacks is the id of no member
 absent_unlisted : (keys : KeyPair) (pool : List Held) (ms : List Member) (id : Hash32) → in_pool pool id ≡ false → AreMembers keys pool ms → listed (ids_of ms) id ≡ false
 absent_unlisted keys pool ms id absent h = unlisted (λ x. in_pool pool x ≡ true) (ids_of ms) id (pooled_ids keys pool ms h.each) (λ e. both_ways (in_pool pool id) absent e)
-
-one_alone : (id : Hash32) → Distinct (id ∷ [])
-unfolding Distinct
-one_alone id = (refl, tt)
 
 -- one more, of the pool's last transaction
 push_members : (keys : KeyPair) (pool : List Held) (t : Held) (ms : List Member) → in_pool pool t.id ≡ false → AreMembers keys pool ms → AreMembers keys (pool ++ t ∷ []) (ms ++ member_of keys t.id ∷ [])
@@ -151,11 +135,11 @@ module _ (s : NodeState) (h : IsSetUp s) where
 
   -- ---- a sketch
 
-  record LeftOver (set : List Member) : Type 0 where
+  record IsLeftOver (set : List Member) : Type 0 where
     pub are : AreMembers k s.pool set
     pub unknown : AreApart (open_wants s) set
 
-  left-over : (n : ℕ) → LeftOver (left_over n s.set)
+  left-over : (n : ℕ) → IsLeftOver (left_over n s.set)
   unfolding left_over
   left-over zero = record { are = none_members k s.pool; unknown = tt }
   left-over (suc n) = record { are = h.set; unknown = h.unknown }
@@ -175,7 +159,7 @@ module _ (s : NodeState) (h : IsSetUp s) where
     rest_members = filter_members k s.pool (λ id. not (listed (announced es) id)) s.set h.set
 
     rest_apart : (ids : List Hash32) → AreApart ids s.set → AreApart ids rest
-    rest_apart ids a = filter_each (λ m. not (listed ids m.id) ≡ true) (λ m. not (listed (announced es) m.id)) s.set a
+    rest_apart ids a = all_filter (λ m. not (listed ids m.id) ≡ true) (λ m. not (listed (announced es) m.id)) s.set a
 
     unlisted_news : (id : Hash32) → listed (announced es) id ≡ false → listed (news s es) id ≡ false
     unlisted_news id out =
@@ -256,7 +240,7 @@ module _ (s : NodeState) (h : IsSetUp s) where
 
 -- ---- the steps
 
-setup_rows : (s : NodeState) → IsSetUp s → IsConversing s → Distinct (pool_ids s.pool) → Rows s (λ t. IsSetUp t.state)
+setup_rows : (s : NodeState) → IsSetUp s → IsConversing s → Distinct (pool_ids s.pool) → EachRow s (λ t. IsSetUp t.state)
 setup_rows s h c d = record {
   stays = h;
   ends = λ e. record { set = h.set; snapshot = h.snapshot; apart = h.apart; unknown = h.unknown };

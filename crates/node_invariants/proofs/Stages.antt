@@ -1,5 +1,5 @@
 -- The phases of a round: which sketch is waited for or was sent in each.
-use Rattle.std.proofs.Common.{◌≡◌, ℕ, zero, suc, ◌≤◌, ◌<◌, Bool, true, false, List, [], ◌∷◌, Option, Some, None, refl, sym, ap, ◌∙◌, arith}
+use Rattle.std.proofs.Common.{◌≡◌, ℕ, zero, suc, ◌≤◌, true, false, List, [], ◌∷◌, Some, None, refl, arith}
 use Rattle.base_types.specs.declared.lists.Hash32.{Hash32}
 use Rattle.wire_rules.specs.declared.phase.Phase.{Phase}
 use Rattle.wire_rules.specs.declared.phase.Phase.TheVariants as phase
@@ -7,37 +7,37 @@ use Rattle.node_rules.specs.Barrier.{is_barrier, behind_barrier, settled}
 use Rattle.node_rules.specs.Stages.{waiting, sent, asked_for, given, is_idle}
 
 -- no sketch is waited for, and none was sent
-pub record Rests (p : Phase) : Type 0 where
+pub record HasNoSketch (p : Phase) : Type 0 where
   pub asked : asked_for p ≡ None
   pub sent : given p ≡ None
 
-pub greeting-rests : Rests phase.Greeting
+pub greeting-rests : HasNoSketch phase.Greeting
 unfolding asked_for given
 greeting-rests = record { asked = refl; sent = refl }
 
-pub greeted-rests : Rests phase.Greeted
+pub greeted-rests : HasNoSketch phase.Greeted
 unfolding asked_for given
 greeted-rests = record { asked = refl; sent = refl }
 
-pub idle-rests : Rests phase.Idle
+pub idle-rests : HasNoSketch phase.Idle
 unfolding asked_for given
 idle-rests = record { asked = refl; sent = refl }
 
-pub barrier-rests : Rests phase.Barrier
+pub barrier-rests : HasNoSketch phase.Barrier
 unfolding asked_for given
 barrier-rests = record { asked = refl; sent = refl }
 
-pub behind-rests : (ids : List Hash32) → Rests (behind_barrier ids)
+pub behind-rests : (ids : List Hash32) → HasNoSketch (behind_barrier ids)
 unfolding asked_for given behind_barrier
 behind-rests [] = record { asked = refl; sent = refl }
 behind-rests (id ∷ ids) = record { asked = refl; sent = refl }
 
-pub is_idle-rests : (p : Phase) → is_idle p ≡ true → Rests p
+pub is_idle-rests : (p : Phase) → is_idle p ≡ true → HasNoSketch p
 unfolding is_idle
 is_idle-rests phase.Idle e = idle-rests
 is_idle-rests other e = absurd (let apart : false ≡ true = e in cc)
 
-pub is_barrier-rests : (p : Phase) → is_barrier p ≡ true → Rests p
+pub is_barrier-rests : (p : Phase) → is_barrier p ≡ true → HasNoSketch p
 unfolding is_barrier
 is_barrier-rests phase.Barrier e = barrier-rests
 is_barrier-rests other e = absurd (let apart : false ≡ true = e in cc)

@@ -1,5 +1,5 @@
 -- A node's pool and wants stay within their limits, and each transaction is served once.
-use Rattle.std.proofs.Common.{◌≡◌, ℕ, ◌+◌, ◌&&◌, ◌||◌, not, nat_lt, nat_le, length, Bool, true, false, cond, List, [], ◌∷◌, ◌++◌, map, filter, find, option_map, ltb-false, ◌≤◌, ◌^◌, arith, Option, Some, None, refl, sym, ap, ap₂, ◌∙◌, subst, append_assoc}
+use Rattle.std.proofs.Common.{◌≡◌, ℕ, ◌+◌, ◌&&◌, ◌||◌, not, nat_lt, nat_le, length, Bool, true, false, List, [], ◌∷◌, ◌++◌, map, filter, ltb-false, ◌≤◌, ◌^◌, arith, Option, Some, None, refl, sym, ap, ap₂, ◌∙◌, subst, append_assoc}
 use Rattle.std.specs.List.{AllByRecursion, list_all}
 use Rattle.std.proofs.lemmas.Bool.{or_left, or_right, or_parts, not-true, both_ways, false_from_ne_true, and_parts, cond_both, leb-true, leb-false}
 use Rattle.std.proofs.lemmas.List.{length-append}
@@ -11,19 +11,18 @@ use Rattle.wire_rules.specs.declared.message.Message.{Message}
 use Rattle.wire_rules.specs.declared.message.Message.TheVariants as message
 use Rattle.pool_rules.specs.Pools.{Held, IsHeld, IsPool, held, same_id, listed, without, Distinct, in_pool, bytes_of_id, bytes_fit, byte_count, pool_ids}
 use Rattle.pool_rules.specs.declared.limits.TheConstants.{POOL_LIMIT, POOL_BYTES}
-use Rattle.node_rules.specs.Additions.{adds, is_full, pooled}
+use Rattle.node_rules.specs.Additions.{adds, pooled}
 use Rattle.node_rules.specs.Barrier.{asks}
-use Rattle.node_rules.specs.Invariant.{IsStore, IsWanting, IsServing, is_id}
-use Rattle.node_rules.specs.Inventory.{is_tx_entry, announced, is_known, news, without_announced, with_wanted, with_asked, still_asking, Serving, served_by, serves_one, serves, serving, on_getdata, on_notfound}
+use Rattle.node_rules.specs.Invariant.{IsStore, IsServing, is_id}
+use Rattle.node_rules.specs.Inventory.{is_tx_entry, announced, is_known, news, without_announced, with_wanted, with_asked, still_asking, Serving, served_by, serves_one, serves, serving, on_getdata}
 use Rattle.node_rules.specs.State.{NodeState, Wants, opening_state, open_wants, taken_room}
 use Rattle.node_rules.specs.Steps.{takes, begins}
-use Rattle.node_rules.specs.Turns.{Turn}
 use Rattle.node_rules.specs.declared.config.Config.{Config}
 use Rattle.node_rules.specs.declared.config.Role.{Role}
-use Rattle.node_invariants.proofs.Ids.{same_is, both_false, all_listed, listed_all, listed_append, in_pool_append, in_pool_more, pool_ids_append, distinct_apart, distinct_both, new_unknown, new_kept}
-use Rattle.node_invariants.proofs.Lists.{all_append, all_left, all_right, all_weaker}
-use Rattle.node_invariants.proofs.Rooms.{lack, lack_append, lack_le, lack_grow, lack_filter, lack_taken, distinct_fewer_left, distinct_fewer_right, distinct_swap, new_distinct, gone, pool_listed, all_filtered}
-use Rattle.node_invariants.proofs.Rows.{Rows, IsAddable, IsAsked, IsNews, takes-rows, adds-rows, begins-rows}
+use Rattle.node_invariants.proofs.Ids.{first_or_later, one_alone, same_is, both_false, all_listed, listed_all, listed_append, in_pool_append, in_pool_more, pool_ids_append, distinct_apart, distinct_both, new_unknown, new_kept}
+use Rattle.node_invariants.proofs.Lists.{all_append, all_filter, all_left, all_right, all_weaker}
+use Rattle.node_invariants.proofs.Rooms.{lack, lack_append, lack_le, lack_grow, lack_filter, lack_taken, distinct_fewer_left, distinct_fewer_right, distinct_swap, new_distinct, gone, pool_listed}
+use Rattle.node_invariants.proofs.Rows.{EachRow, IsAddable, IsNews, takes-rows, adds-rows, begins-rows}
 
 abbrev pub IsId : Hash32 → Type 0
 IsId id = is_id id ≡ true
@@ -36,24 +35,16 @@ IsIn pool id = in_pool pool id ≡ true
 
 -- ---- serving
 
-found_first : (b : Bool) (t : Held) (ts : List Held) (id : Hash32) (tx : List ℕ) → same_id t.id id ≡ b → (bytes_of_id ts id ≡ Some tx → in_pool ts id ≡ true)
-    → option_map (λ x. x.bytes) (cond b (Some t) (find (λ x. same_id x.id id) ts)) ≡ Some tx → in_pool (t ∷ ts) id ≡ true
-found_first true t ts id tx same rest e = or_left (same_id t.id id) (in_pool ts id) same
-found_first false t ts id tx same rest e = or_right (same_id t.id id) (in_pool ts id) (rest e)
-
 found_pooled : (pool : List Held) (id : Hash32) (tx : List ℕ) → bytes_of_id pool id ≡ Some tx → in_pool pool id ≡ true
 found_pooled [] id tx e = absurd (let apart : None ≡ Some tx = e in cc)
-found_pooled (t ∷ ts) id tx e = found_first (same_id t.id id) t ts id tx refl (found_pooled ts id tx) e
+found_pooled (t ∷ ts) id tx e =
+    first_or_later (in_pool (t ∷ ts) id ≡ true) t ts id tx e (λ same bytes. or_left (same_id t.id id) (in_pool ts id) same) (λ later. or_right (same_id t.id id) (in_pool ts id) (found_pooled ts id tx later))
 
-record Serves (pool : List Held) (v : Serving) : Type 0 where
+record IsServedFrom (pool : List Held) (v : Serving) : Type 0 where
   pub once : Distinct v.served
   pub pooled : AllByRecursion (IsIn pool) v.served
 
-one_alone : (id : Hash32) → Distinct (id ∷ [])
-unfolding Distinct
-one_alone id = (refl, tt)
-
-served_serves : (may : Bool) (tx : Option (List ℕ)) (pool : List Held) (e : InvEntry) (v : Serving) → (may ≡ true → listed v.served e.id ≡ false) → bytes_of_id pool e.id ≡ tx → Serves pool v → Serves pool (served_by may tx e v)
+served_serves : (may : Bool) (tx : Option (List ℕ)) (pool : List Held) (e : InvEntry) (v : Serving) → (may ≡ true → listed v.served e.id ≡ false) → bytes_of_id pool e.id ≡ tx → IsServedFrom pool v → IsServedFrom pool (served_by may tx e v)
 unfolding served_by
 served_serves true (Some tx) pool e v unserved found h = record {
   once = distinct_both v.served (e.id ∷ []) h.once (one_alone e.id) (unserved refl, tt);
@@ -62,7 +53,7 @@ served_serves true (Some tx) pool e v unserved found h = record {
 served_serves true None pool e v unserved found h = record { once = h.once; pooled = h.pooled }
 served_serves false tx pool e v unserved found h = record { once = h.once; pooled = h.pooled }
 
-serves_serves : (pool : List Held) (v : Serving) (es : List InvEntry) → Serves pool v → Serves pool (serves pool v es)
+serves_serves : (pool : List Held) (v : Serving) (es : List InvEntry) → IsServedFrom pool v → IsServedFrom pool (serves pool v es)
 unfolding serves
 serves_serves pool v [] h = h
 serves_serves pool v (e ∷ es) h =
@@ -158,7 +149,7 @@ module _ (s : NodeState) (store : IsStore s) where
   asked_fewer t =
       store_from (still_asking s (filter t s.wants.asked)) store.pool (distinct_fewer_right t s.wants.wanted s.wants.asked store.wanting.once) store.wanting.unwanted
       (let le = store.wanting.room in let less = lack_filter s.pool t s.wants.asked in let a = lack_append s.pool s.wants.wanted (filter t s.wants.asked) in let b = lack_append s.pool s.wants.wanted s.wants.asked in omega (arith, le, less, a, b))
-      (all_append IsId s.wants.wanted (filter t s.wants.asked) (all_left IsId s.wants.wanted s.wants.asked store.ids) (all_filtered IsId t s.wants.asked (all_right IsId s.wants.wanted s.wants.asked store.ids)))
+      (all_append IsId s.wants.wanted (filter t s.wants.asked) (all_left IsId s.wants.wanted s.wants.asked store.ids) (all_filter IsId t s.wants.asked (all_right IsId s.wants.wanted s.wants.asked store.ids)))
       (record { once = store.serving.once; pooled = store.serving.pooled })
 
   pong_store : IsStore (asks s)
@@ -228,13 +219,13 @@ module _ (s : NodeState) (store : IsStore s) where
         let test : Hash32 → Bool = λ other. not (same_id other t.id) in
         let space = pooled_room (listed (open_wants s) t.id) refl room in
         grown_store (pooled s t) refl refl (distinct_fewer_left test s.wants.wanted s.wants.asked store.wanting.once)
-        (still_out (without s.wants.wanted t.id) (all_filtered (IsOut s.pool) test s.wants.wanted store.wanting.unwanted) (gone s.wants.wanted t.id))
+        (still_out (without s.wants.wanted t.id) (all_filter (IsOut s.pool) test s.wants.wanted store.wanting.unwanted) (gone s.wants.wanted t.id))
         (let a = lack_append grown (without s.wants.wanted t.id) s.wants.asked in
         let b = lack_append grown s.wants.wanted s.wants.asked in
         let fewer = lack_filter grown test s.wants.wanted in
         let long = length_grown in
         omega (arith, a, b, fewer, long, space))
-        (all_append IsId (without s.wants.wanted t.id) s.wants.asked (all_filtered IsId test s.wants.wanted (all_left IsId s.wants.wanted s.wants.asked store.ids)) (all_right IsId s.wants.wanted s.wants.asked store.ids))
+        (all_append IsId (without s.wants.wanted t.id) s.wants.asked (all_filter IsId test s.wants.wanted (all_left IsId s.wants.wanted s.wants.asked store.ids)) (all_right IsId s.wants.wanted s.wants.asked store.ids))
 
   room_left : (fit known over : Bool) → (not fit || (not known && over)) ≡ false → (fit ≡ true) × (known ≡ false → over ≡ false)
   room_left true true over e = (refl, λ h. absurd (let apart : true ≡ false = h in cc))
@@ -248,7 +239,7 @@ module _ (s : NodeState) (store : IsStore s) where
 
 -- ---- the steps
 
-store_rows : (s : NodeState) → IsStore s → Rows s (λ t. IsStore t.state)
+store_rows : (s : NodeState) → IsStore s → EachRow s (λ t. IsStore t.state)
 store_rows s h = record {
   stays = h;
   ends = λ e. same_store s h (record s { ended = Some e }) refl refl;
