@@ -1,8 +1,7 @@
 -- What was noted of the peer, the level, the phase, and what each role keeps: by each of a node's steps.
-use Rattle.std.proofs.Common.{◌≡◌, ℕ, zero, suc, nat_lt, is_none, not, Bool, true, false, List, [], ◌∷◌, ◌++◌, length, filter, Option, Some, None, Ok, IsTrue, refl, sym, ap, ◌∙◌, subst, arith, le-leb}
+use Rattle.std.proofs.Common.{◌≡◌, ℕ, zero, suc, nat_lt, is_none, not, Bool, true, false, List, [], ◌∷◌, ◌++◌, length, filter, Option, Some, None, IsTrue, refl, sym, ap, ◌∙◌, subst, arith, le-leb}
 use Rattle.base_types.specs.declared.lists.Hash32.{Hash32}
 use Rattle.wire_rules.specs.Limits.{IsMessage}
-use Rattle.wire_rules.specs.declared.message.InvEntry.{InvEntry}
 use Rattle.wire_rules.specs.declared.message.Message.{Message}
 use Rattle.wire_rules.specs.declared.phase.Phase.{Phase}
 use Rattle.wire_rules.specs.declared.phase.Phase.TheVariants as phase
@@ -12,19 +11,18 @@ use Rattle.node_rules.specs.Additions.{adds, pooled}
 use Rattle.node_rules.specs.Barrier.{is_barrier, behind_barrier, settled, asks}
 use Rattle.node_rules.specs.Handshake.{level_of, greeted, with_peer, through}
 use Rattle.node_rules.specs.Invariant.{IsConversing, IsEarly, IsIntroduced, IsOffer, IsPlain, Converses, KeepsRole, is_phase_of, is_fetching, is_apart_from_sketches}
-use Rattle.node_rules.specs.Inventory.{announced, without_announced, news, still_asking, with_wanted, with_asked}
+use Rattle.node_rules.specs.Inventory.{announced, without_announced, news, still_asking}
 use Rattle.pool_rules.specs.declared.report.Report.{Report}
 use Rattle.node_rules.specs.declared.end.End.{End}
 use Rattle.node_rules.specs.Stages.{waiting, sent, asked_for, given, is_idle, is_past}
-use Rattle.node_rules.specs.State.{NodeState, Inbox, Offer, Peer, Requests, Round, Wants, first_requests, no_peer, no_wants, open_wants, opening_state}
+use Rattle.node_rules.specs.State.{NodeState, Inbox, Offer, Peer, Requests, Round, Wants, first_requests, no_wants, opening_state}
 use Rattle.node_rules.specs.Steps.{takes, begins}
-use Rattle.node_rules.specs.Turns.{Turn}
 use Rattle.node_rules.specs.declared.config.Config.{Config}
 use Rattle.node_rules.specs.declared.config.Role.{Role}
 use Rattle.node_rules.specs.declared.config.Role.TheVariants as role
 use Rattle.node_invariants.proofs.Early.{greeting-early, greeted-early}
 use Rattle.node_invariants.proofs.Rows.{EachRow, IsReconciling, takes-rows, adds-rows, begins-rows}
-use Rattle.node_invariants.proofs.Stages.{HasNoSketch, idle-rests, barrier-rests, behind-rests, is_barrier-rests, settled-asked, settled-given}
+use Rattle.node_invariants.proofs.Stages.{HasNoSketch, idle-rests, barrier-rests, behind-rests, settled-asked, settled-given}
 
 -- ---- phases behind the handshake
 
@@ -389,6 +387,11 @@ round_row s h requests o idle =
     opener_conversing s h (waiting 0) s.machine.round s.machine.reports requests s.set o.role (idle-past s.machine.phase idle) (idle-unfetching s.machine.phase idle) (waiting-past 0) (waiting-opener 0) (waiting-unfetching 0)
     (never_plain s (with_machine s (waiting 0) s.machine.round s.machine.reports requests s.set) o.whole)
 
+-- with another inbox, and ended or not
+pub beside-conversing : (s : NodeState) → IsConversing s → (i : Inbox) (ended : Option End) → IsConversing (record s { inbox = i; ended = ended })
+beside-conversing s h i ended =
+    other_conversing s h s.set s.pool s.wants i ended (other_either s h s.set s.pool s.wants i ended (λ e. e) (λ e. e)) (λ k e. e) (other_role s h s.set s.pool s.wants i ended s.config.role refl (λ e. e) h.role)
+
 some_offer : (o x : Offer) → Some o ≡ Some x → o ≡ x
 some_offer o x e = cc
 
@@ -410,7 +413,7 @@ addition_row s h set t f =
 conversing_rows : (s : NodeState) → IsConversing s → EachRow s (λ t. IsConversing t.state)
 conversing_rows s h = record {
   stays = h;
-  ends = λ e. other_conversing s h s.set s.pool s.wants s.inbox (Some e) (other_either s h s.set s.pool s.wants s.inbox (Some e) (λ k. k) (λ k. k)) (λ k e. e) (other_role s h s.set s.pool s.wants s.inbox (Some e) s.config.role refl (λ k. k) h.role);
+  ends = λ e. beside-conversing s h s.inbox (Some e);
   version = λ e. greeted_conversing s h e;
   wtxidrelay = λ e. peer_conversing s h _ e h.offer;
   offer = λ o e is none. peer_conversing s h _ e (λ x k. subst IsOffer (some_offer o x k) is);

@@ -13,3 +13,4 @@ pub mod Reports
 pub mod Fitting
 pub mod Sendable
 pub mod Sending
+pub mod Joined

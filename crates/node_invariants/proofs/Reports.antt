@@ -1,15 +1,13 @@
 -- The reports of a node's rounds: each has ids of its pool, none twice, and short ids, none twice.
-use Rattle.std.proofs.Common.{◌≡◌, ℕ, zero, suc, ◌+◌, ◌%◌, ◌^◌, ◌<◌, ◌≤◌, ◌==◌, ◌||◌, nat_eq, Bool, true, false, cond, List, [], ◌∷◌, ◌++◌, length, filter, Option, Some, None, Ok, if◌then◌else◌, IsTrue, refl, sym, ap, ◌∙◌, subst, ⊎_elim, arith, lit<, lit≤, mod-lt, ne_eqb, eqb-true}
+use Rattle.std.proofs.Common.{◌≡◌, ℕ, zero, suc, ◌+◌, ◌%◌, ◌^◌, ◌<◌, ◌≤◌, ◌==◌, nat_eq, Bool, true, false, cond, List, [], ◌∷◌, ◌++◌, length, filter, Option, Some, None, if◌then◌else◌, refl, sym, ap, subst, ⊎_elim, arith, lit<, lit≤, mod-lt, ne_eqb, eqb-true}
 use Rattle.std.specs.List.{AllByRecursion, IsDistinct}
 use Rattle.std.proofs.lemmas.Bool.{or_cases, or_parts}
-use Rattle.base_types.specs.declared.lists.Hash32.{Hash32}
 use Rattle.sketch_rules.specs.Answers.{Rises}
 use Rattle.id_rules.specs.Ids.{KeyPair}
 use Rattle.id_rules.specs.SipHash.{sip24}
 use Rattle.wire_rules.specs.Limits.{IsMessage}
 use Rattle.wire_rules.specs.declared.message.Message.{Message}
-use Rattle.wire_rules.specs.declared.phase.Phase.{Phase}
-use Rattle.pool_rules.specs.Pools.{Held, IsHeld, held, Distinct, in_pool}
+use Rattle.pool_rules.specs.Pools.{Held, IsHeld, held, in_pool}
 use Rattle.pool_rules.specs.Snapshots.{Member, shorts_of, sketched_shorts, is_single}
 use Rattle.pool_rules.specs.declared.limits.TheConstants.{FIRST_LIMIT}
 use Rattle.pool_rules.specs.declared.report.Ending.{Ending}
@@ -27,7 +25,7 @@ use Rattle.node_rules.specs.declared.end.End.{End}
 use Rattle.node_rules.specs.declared.end.End.TheVariants as end
 use Rattle.node_invariants.proofs.Bounds.{joined-is, answer-is, sketched-round}
 use Rattle.node_invariants.proofs.Ids.{in_pool_more}
-use Rattle.node_invariants.proofs.Lists.{all_append, all_kept, all_weaker}
+use Rattle.node_invariants.proofs.Lists.{all_append, all_weaker}
 use Rattle.node_invariants.proofs.Rows.{EachRow, IsAwaitingSketch, takes-rows, adds-rows, begins-rows}
 use Rattle.node_invariants.proofs.Sets.{pooled_ids}
 
