@@ -1,5 +1,5 @@
 -- The reports of a node's rounds: each has ids of its pool, none twice, and short ids, none twice.
-use Rattle.std.proofs.Common.{◌≡◌, ℕ, zero, suc, ◌+◌, ◌%◌, ◌^◌, ◌<◌, ◌≤◌, ◌==◌, nat_eq, Bool, true, false, cond, List, [], ◌∷◌, ◌++◌, length, filter, Option, Some, None, if◌then◌else◌, refl, sym, ap, subst, ⊎_elim, arith, lit<, lit≤, mod-lt, ne_eqb, eqb-true}
+use Rattle.std.proofs.Common.{◌≡◌, ℕ, zero, suc, ◌+◌, ◌%◌, ◌^◌, ◌<◌, ◌≤◌, ◌==◌, nat_eq, Bool, true, false, List, [], ◌∷◌, ◌++◌, length, filter, Option, Some, None, if◌then◌else◌, refl, sym, ap, subst, ⊎_elim, arith, lit<, lit≤, mod-lt, ne_eqb, eqb-true}
 use Rattle.std.specs.List.{AllByRecursion, IsDistinct}
 use Rattle.std.proofs.lemmas.Bool.{or_cases, or_parts}
 use Rattle.sketch_rules.specs.Answers.{Rises}
@@ -8,7 +8,7 @@ use Rattle.id_rules.specs.SipHash.{sip24}
 use Rattle.wire_rules.specs.Limits.{IsMessage}
 use Rattle.wire_rules.specs.declared.message.Message.{Message}
 use Rattle.pool_rules.specs.Pools.{Held, IsHeld, held, in_pool}
-use Rattle.pool_rules.specs.Snapshots.{Member, shorts_of, sketched_shorts, is_single}
+use Rattle.pool_rules.specs.Snapshots.{Member, shorts_of, sketched, sketched_shorts, is_single}
 use Rattle.pool_rules.specs.declared.limits.TheConstants.{FIRST_LIMIT}
 use Rattle.pool_rules.specs.declared.report.Ending.{Ending}
 use Rattle.pool_rules.specs.declared.report.Ending.TheVariants as ending
@@ -25,7 +25,7 @@ use Rattle.node_rules.specs.declared.end.End.{End}
 use Rattle.node_rules.specs.declared.end.End.TheVariants as end
 use Rattle.node_invariants.proofs.Bounds.{joined-is, answer-is, sketched-round}
 use Rattle.node_invariants.proofs.Ids.{in_pool_more}
-use Rattle.node_invariants.proofs.Lists.{all_append, all_weaker}
+use Rattle.node_invariants.proofs.Lists.{all_append, all_filter, all_weaker}
 use Rattle.node_invariants.proofs.Rows.{EachRow, IsAwaitingSketch, takes-rows, adds-rows, begins-rows}
 use Rattle.node_invariants.proofs.Sets.{pooled_ids}
 
@@ -66,13 +66,12 @@ member_short keys pool m h =
     let lt : sip24 keys.k0 keys.k1 m.id.0 % 0xFFFFFFFF < 0xFFFFFFFF = mod-lt (sip24 keys.k0 keys.k1 m.id.0) (lit< tt) in
     subst IsShort (sym (ap (λ (x : Member). x.short) h.short)) (record { least = omega arith; most = omega (arith, lt) })
 
-sketched_each : (keys : KeyPair) (pool : List Held) (t : Member → Bool) (ms : List Member) → AllByRecursion (IsMember keys pool) ms → AllByRecursion IsShort (shorts_of (filter t ms))
-sketched_each keys pool t [] h = tt
-sketched_each keys pool t (m ∷ ms) h = kept (t m) m (filter t ms) (member_short keys pool m h.0) (sketched_each keys pool t ms h.1)
-  where
-    kept : (b : Bool) (m : Member) (ms : List Member) → IsShort m.short → AllByRecursion IsShort (shorts_of ms) → AllByRecursion IsShort (shorts_of (cond b (m ∷ ms) ms))
-    kept true m ms h k = (h, k)
-    kept false m ms h k = k
+shorts_each : (ms : List Member) → AllByRecursion (λ m. IsShort m.short) ms → AllByRecursion IsShort (shorts_of ms)
+shorts_each [] h = tt
+shorts_each (m ∷ ms) h = (h.0, shorts_each ms h.1)
+
+sketched_each : (keys : KeyPair) (pool : List Held) (snapshot : List Member) → AllByRecursion (IsMember keys pool) snapshot → AllByRecursion IsShort (sketched_shorts snapshot)
+sketched_each keys pool snapshot h = shorts_each (sketched snapshot) (all_filter (λ m. IsShort m.short) (λ m. is_single snapshot m.short) snapshot (all_weaker (IsMember keys pool) (λ m. IsShort m.short) (member_short keys pool) snapshot h))
 
 is_in_each : (P : ℕ → Type 0) (ns : List ℕ) (n : ℕ) → AllByRecursion P ns → is_in ns n ≡ true → P n
 is_in_each P [] n h e = absurd (let apart : false ≡ true = e in cc)
@@ -109,7 +108,7 @@ none_asked (n ∷ ns) e = absurd (let apart : Some (end.AsksOnFailure (length (n
 asks_short : (success : Bool) (keys : KeyPair) (pool : List Held) (r : Round) (asks : List ℕ) → AreMembers keys pool r.snapshot → diff_fault success r asks ≡ None → AreShort asks
 asks_short true keys pool r asks h e =
     let a = asked_well (sketched_shorts r.snapshot) [] asks e in
-    record { once = a.once; each = all_weaker (λ n. is_in (sketched_shorts r.snapshot) n ≡ true) IsShort (λ n k. is_in_each IsShort (sketched_shorts r.snapshot) n (sketched_each keys pool (λ m. is_single r.snapshot m.short) r.snapshot h.each) k) asks a.sketched }
+    record { once = a.once; each = all_weaker (λ n. is_in (sketched_shorts r.snapshot) n ≡ true) IsShort (λ n k. is_in_each IsShort (sketched_shorts r.snapshot) n (sketched_each keys pool r.snapshot h.each) k) asks a.sketched }
 asks_short false keys pool r asks h e = none_asked asks e
 
 -- ---- reports
