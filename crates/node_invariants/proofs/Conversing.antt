@@ -250,25 +250,25 @@ module _ (s : NodeState) (h : IsConversing s) where
   -- ---- the same machine
 
   module _ (set : List Member) (pool : List Held) (wants : Wants) (inbox : Inbox) (ended : Option End) where
-    abbrev other : NodeState
-    other = record s { set = set; pool = pool; wants = wants; inbox = inbox; ended = ended }
+    abbrev other_node : NodeState
+    other_node = record s { set = set; pool = pool; wants = wants; inbox = inbox; ended = ended }
 
-    other_introduced : IsIntroduced s → IsIntroduced other
+    other_introduced : IsIntroduced s → IsIntroduced other_node
     other_introduced i = record { relays_by_id = i.relays_by_id; plain = i.plain; level = i.level; phase = i.phase }
 
-    other_past : is_past s.machine.phase ≡ true → Converses s.machine.phase other
-    other_past past = converses_in s.machine.phase other past (other_introduced (introduced s h past))
+    other_past : is_past s.machine.phase ≡ true → Converses s.machine.phase other_node
+    other_past past = converses_in s.machine.phase other_node past (other_introduced (introduced s h past))
 
-    other_either : (s.set ≡ [] → set ≡ []) → (s.wants ≡ no_wants → wants ≡ no_wants) → Converses s.machine.phase other
+    other_either : (s.set ≡ [] → set ≡ []) → (s.wants ≡ no_wants → wants ≡ no_wants) → Converses s.machine.phase other_node
     other_either f g =
-        still_converses s.machine.phase s other refl (λ e. record { set = f e.set; round = e.round; level = e.level; reports = e.reports; requests = e.requests; wants = g e.wants; plain = e.plain }) other_introduced h.conversation
+        still_converses s.machine.phase s other_node refl (λ e. record { set = f e.set; round = e.round; level = e.level; reports = e.reports; requests = e.requests; wants = g e.wants; plain = e.plain }) other_introduced h.conversation
 
-    other_role : (r : Role) → wants.asked ≡ s.wants.asked → (s.wants.wanted ≡ [] → wants.wanted ≡ []) → KeepsRole r s → KeepsRole r other
+    other_role : (r : Role) → wants.asked ≡ s.wants.asked → (s.wants.wanted ≡ [] → wants.wanted ≡ []) → KeepsRole r s → KeepsRole r other_node
     unfolding KeepsRole
     other_role role.Opener asked wanted k = k ∙ ap (λ ids. nat_lt 0 (length ids)) (sym asked)
     other_role role.Accepter asked wanted k = (wanted k.0, k.1)
 
-    other_conversing : Converses s.machine.phase other → (s.plain ≡ true → s.set ≡ [] → set ≡ []) → KeepsRole s.config.role other → IsConversing other
+    other_conversing : Converses s.machine.phase other_node → (s.plain ≡ true → s.set ≡ [] → set ≡ []) → KeepsRole s.config.role other_node → IsConversing other_node
     other_conversing c f r = record { conversation = c; offer = h.offer; plain = λ e. let p = h.plain e in record { set = f e p.set; round = p.round; reports = p.reports; phase = p.phase }; role = r }
 
   -- ---- fewer that are asked for
@@ -296,18 +296,18 @@ module _ (s : NodeState) (h : IsConversing s) where
   -- ---- another machine, behind the handshake
 
   module _ (next : Phase) (round : Round) (reports : List Report) (requests : Requests) (set : List Member) where
-    abbrev after : NodeState
-    after = with_machine s next round reports requests set
+    abbrev next_node : NodeState
+    next_node = with_machine s next round reports requests set
 
-    machine_conversing : is_past s.machine.phase ≡ true → is_past next ≡ true → is_phase_of s.config.role next ≡ true → (s.plain ≡ true → IsPlain after) → KeepsRole s.config.role after → IsConversing after
+    machine_conversing : is_past s.machine.phase ≡ true → is_past next ≡ true → is_phase_of s.config.role next ≡ true → (s.plain ≡ true → IsPlain next_node) → KeepsRole s.config.role next_node → IsConversing next_node
     machine_conversing past later phase plain r =
         let i = introduced s h past in
-        record { conversation = converses_in next after later (record { relays_by_id = i.relays_by_id; plain = i.plain; level = i.level; phase = phase }); offer = h.offer; plain = plain; role = r }
+        record { conversation = converses_in next next_node later (record { relays_by_id = i.relays_by_id; plain = i.plain; level = i.level; phase = phase }); offer = h.offer; plain = plain; role = r }
 
     -- an opener that neither fetches before nor behind
-    opener_conversing : s.config.role ≡ role.Opener → is_past s.machine.phase ≡ true → is_fetching s.machine.phase ≡ false → is_past next ≡ true → is_phase_of role.Opener next ≡ true → is_fetching next ≡ false → (s.plain ≡ true → IsPlain after) → IsConversing after
+    opener_conversing : s.config.role ≡ role.Opener → is_past s.machine.phase ≡ true → is_fetching s.machine.phase ≡ false → is_past next ≡ true → is_phase_of role.Opener next ≡ true → is_fetching next ≡ false → (s.plain ≡ true → IsPlain next_node) → IsConversing next_node
     opener_conversing r past before later phase behind plain =
-        machine_conversing past later (subst (λ x. is_phase_of x next ≡ true) (sym r) phase) plain (is_opener s.config.role after r (behind ∙ (sym before ∙ opener_is s r h.role)))
+        machine_conversing past later (subst (λ x. is_phase_of x next ≡ true) (sym r) phase) plain (is_opener s.config.role next_node r (behind ∙ (sym before ∙ opener_is s r h.role)))
 
   accepter_conversing : (next : Phase) (round : Round) (reports : List Report) (set : List Member) → IsReconciling role.Accepter s → is_past s.machine.phase ≡ true → is_past next ≡ true → is_phase_of role.Accepter next ≡ true → IsConversing (with_machine s next round reports s.requests set)
   accepter_conversing next round reports set a past later phase =
