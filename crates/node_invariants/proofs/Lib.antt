@@ -1,0 +1,16 @@
+pub mod Lists
+pub mod Ids
+pub mod Rooms
+pub mod Numbers
+pub mod Rows
+pub mod Stores
+pub mod Early
+pub mod Sets
+pub mod Stages
+pub mod Bounds
+pub mod Conversing
+pub mod Reports
+pub mod Fitting
+pub mod Sendable
+pub mod Sending
+pub mod Joined

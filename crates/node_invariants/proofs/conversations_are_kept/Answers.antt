@@ -1,0 +1,15 @@
+-- Each clause is a lemma.
+use Rattle.node_invariants.proofs.Conversing.{opening-conversing, takes-conversing, adds-conversing, begins-conversing}
+use Rattle.node_invariants.proofs.conversations_are_kept.Goals as goal
+
+pub returns-clause-opening : goal.returns-clause-opening
+returns-clause-opening c = opening-conversing
+
+pub returns-clause-by_message : goal.returns-clause-by_message
+returns-clause-by_message c = takes-conversing
+
+pub returns-clause-by_addition : goal.returns-clause-by_addition
+returns-clause-by_addition c = adds-conversing
+
+pub returns-clause-by_round : goal.returns-clause-by_round
+returns-clause-by_round c = begins-conversing
