@@ -11,7 +11,8 @@ use Rattle.wire_rules.specs.Layout.{checksum}
 use Rattle.wire_rules.specs.Stream.{Header, Whole, header_of, header_fault, by_sum, by_payload, by_header, by_length, front_of}
 use Rattle.wire_rules.specs.declared.frame.Frame.{Frame}
 use Rattle.wire_rules.specs.declared.limits.TheConstants.{PAYLOAD_LIMIT}
-use Rattle.wire_laws.proofs.Taken.{bytes_split, small_byte}
+use Rattle.wire_laws.proofs.Taken.{small_byte}
+use Rattle.wire_laws.proofs.Parts.{bytes_split}
 use Rattle.stream_laws.specs.FrameReading.{IsFirstFrame}
 
 -- the tests that a whole front has passed

@@ -18,8 +18,8 @@ use Rattle.wire_rules.specs.declared.message.VersionMsg.{VersionMsg}
 use Rattle.wire_rules.specs.declared.name.Name.{Name}
 use Rattle.wire_rules.specs.declared.name.Name.TheVariants as name
 use Rattle.wire_laws.specs.Readings.{IsSaid}
-use Rattle.wire_laws.proofs.Parts.{both_so, le_holds}
-use Rattle.wire_laws.proofs.Taken.{Took, both_said, bytes_split, from_ok, number_at-took_2, number_at-took_4, number_at-took_8}
+use Rattle.wire_laws.proofs.Parts.{both_so, bytes_split, le_holds}
+use Rattle.wire_laws.proofs.Taken.{Took, both_said, from_ok, number_at-took_2, number_at-took_4, number_at-took_8}
 use Rattle.wire_laws.proofs.TakenLists.{took_both, counted_bytes-took, counted_at-took, ended-took, entry-took, field-took, flag-took, optional-took, short-took, signed_at-took_4, signed_at-took_8}
 
 -- a payload says a message that may be sent, whose frame has this payload

@@ -13,7 +13,7 @@ use Rattle.wire_rules.specs.declared.faults.PayloadKind.TheVariants as fault
 use Rattle.wire_rules.specs.declared.limits.TheConstants.{LIST_LIMIT}
 use Rattle.wire_rules.specs.declared.message.InvEntry.{InvEntry}
 use Rattle.wire_rules.specs.declared.message.Message.{Message}
-use Rattle.wire_laws.proofs.Parts.{both_hold, both_so, le_holds}
+use Rattle.wire_laws.proofs.Parts.{both_so, bytes_join, le_holds}
 use Rattle.wire_laws.proofs.Readers.{two_bytes}
 use Rattle.wire_laws.proofs.Taken.{Took, both_said, bytes_at-took, byte_took, from_ok, number_at-took_2, number_at-took_4, number_at-took_8}
 
@@ -21,13 +21,9 @@ use Rattle.wire_laws.proofs.Taken.{Took, both_said, bytes_at-took, byte_took, fr
 pub took_both : (a b c : Cursor) (xs ys : List ℕ) → Took a xs b → Took b ys c → Took a (xs ++ ys) c
 took_both a b c xs ys first second = record {
   whole = first.whole ∙ ap (λ rest. xs ++ rest) second.whole ∙ sym (append_assoc xs ys c.rest);
-  front = both_parts xs ys first.front second.front;
+  front = bytes_join xs ys first.front second.front;
   left = second.left;
 }
-  where
-    both_parts : (xs ys : List ℕ) → are_bytes xs ≡ true → are_bytes ys ≡ true → are_bytes (xs ++ ys) ≡ true
-    both_parts [] ys hx hy = hy
-    both_parts (x ∷ xs) ys hx hy = let tests = both_hold (nat_lt x (2 ^ 8)) (are_bytes xs) hx in both_so (nat_lt x (2 ^ 8)) (are_bytes (xs ++ ys)) tests.0 (both_parts xs ys tests.1 hy)
 
 -- ---- counts
 
