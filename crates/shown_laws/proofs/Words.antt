@@ -5,7 +5,7 @@ use Rattle.std.specs.Int.{w32, w64, to_be_bytes, from_be_bytes, bytes_high_first
 use Rattle.std.specs.Fmt.{decimal, signed_decimal}
 use Rattle.std.proofs.Math.Nat.{pow-le-pow_right}
 use Rattle.std.proofs.Math.Seq.{get_or-append_seam}
-use Rattle.std.proofs.lemmas.Bool.{le-leb, ltb-true, ne_eqb}
+use Rattle.std.proofs.lemmas.Bool.{le-leb, ltb-true}
 use Rattle.std.proofs.lemmas.Fmt.{decimal_by_steps}
 use Rattle.std.proofs.lemmas.List.{length-append, get_or_append_left}
 use Rattle.std.proofs.lemmas.List.Sums.{list_all-from_AllPass, position_or_len_is}
@@ -18,10 +18,10 @@ use Rattle.wire_rules.specs.Limits.{are_bytes_of, fits_signed, is_entry, is_opti
 use Rattle.wire_rules.specs.Shown.{bytes_word, entry_word, flag_word, relay_word, salt_word, short_word}
 use Rattle.wire_rules.specs.ShownReading.{◌>>=◌, bytes_of, decoded, digits_onto, each_of, entry_of, flag_of, is_colon, is_digit, negated, number_of, positive, present, relay_of, salt_of, short_of, signed_of}
 use Rattle.wire_rules.specs.declared.message.InvEntry.{InvEntry}
-use Rattle.wire_laws.proofs.Parts.{both_hold, both_so, drop_front, take_front}
+use Rattle.wire_laws.proofs.Parts.{all_join, both_hold, both_so, drop_front, take_front}
 use Rattle.wire_laws.proofs.Sound.{byte_small}
 use Rattle.wire_laws.proofs.Taken.{small_byte}
-use Rattle.shown_laws.proofs.Fields.{IsSpaceless, spaceless}
+use Rattle.shown_laws.proofs.Fields.{IsSpaceless, another, no-space}
 
 -- a word is read as what it was written for
 pub record Reads {A : Type 0} (item : List ℕ → Option A) (word : List ℕ) (x : A) : Type 0 where
@@ -55,10 +55,6 @@ record IsNumber (n : ℕ) (ds : List ℕ) : Type 0 where
 digit_of : (n : ℕ) → n < 10 → is_digit (48 + n) ≡ true
 digit_of n h = both_so (nat_le 48 (48 + n)) (nat_le (48 + n) 57) (le-leb 48 (48 + n) (omega arith)) (le-leb (48 + n) 57 (omega arith))
 
-all_push : (ds : List ℕ) (c : ℕ) → list_all is_digit ds ≡ true → is_digit c ≡ true → list_all is_digit (ds ++ (c ∷ [])) ≡ true
-all_push [] c h e = both_so (is_digit c) true e refl
-all_push (b ∷ ds) c h e = let tests = both_hold (is_digit b) (list_all is_digit ds) h in both_so (is_digit b) (list_all is_digit (ds ++ (c ∷ []))) tests.0 (all_push ds c tests.1 e)
-
 one_digit : (n : ℕ) → n < 10 → IsNumber n ((48 + n) ∷ [])
 unfolding digits_onto
 one_digit n h = record {
@@ -70,33 +66,22 @@ one_digit n h = record {
 more_digits : (n : ℕ) (ds : List ℕ) → 10 ≤ n → IsNumber (n / 10) ds → IsNumber n (ds ++ ((48 + n % 10) ∷ []))
 more_digits n ds low h = record {
   some = let front = h.some in let size = length-append ds ((48 + n % 10) ∷ []) in omega arith;
-  digits = all_push ds (48 + n % 10) h.digits (digit_of (n % 10) (omega arith));
+  digits = all_join is_digit ds ((48 + n % 10) ∷ []) h.digits (both_so (is_digit (48 + n % 10)) true (digit_of (n % 10) (omega arith)) refl);
   said = digits_push 0 ds (48 + n % 10) (n / 10) (digit_of (n % 10) (omega arith)) h.said ∙ ap (λ k. Some k) (omega arith);
 }
 
 decimal_number : (n : ℕ) → n < 2 ^ 64 → IsNumber n (decimal n)
 decimal_number = decimal_by_steps IsNumber one_digit more_digits
 
--- a byte that is no digit is another one
-not_digit : (b c : ℕ) → is_digit b ≡ true → is_digit c ≡ false → (b == c) ≡ false
-not_digit b c h e = ne_eqb b c (λ same. apart (sym h ∙ (ap is_digit same ∙ e)))
-  where
-    apart : true ≡ false → ⊥
-    apart x = absurd (cc)
-
-no_spaces : (ds : List ℕ) → list_all is_digit ds ≡ true → spaceless ds ≡ true
-no_spaces [] h = refl
-no_spaces (b ∷ ds) h = let tests = both_hold (is_digit b) (list_all is_digit ds) h in both_so (not (b == 32)) (spaceless ds) (ap not (not_digit b 32 tests.0 refl)) (no_spaces ds tests.1)
-
 pub number-reads : (n : ℕ) → n < 2 ^ 64 → Reads number_of (decimal n) n
-number-reads n h = let number = decimal_number n h in record { spaces = record { none = no_spaces (decimal n) number.digits }; said = number.said }
+number-reads n h = let number = decimal_number n h in record { spaces = record { none = no-space is_digit refl (decimal n) number.digits }; said = number.said }
 
 -- ---- signed numbers
 
 signed_by : (n : ℕ) (ds : List ℕ) → IsNumber n ds → signed_of ds ≡ Some (pos n)
 signed_by n [] number = absurd (let some = number.some in omega arith)
 signed_by n (b ∷ ds) number =
-    ap (λ t. if t then (number_of ds >>= negated) else positive (number_of (b ∷ ds))) (not_digit b 45 (both_hold (is_digit b) (list_all is_digit ds) number.digits).0 refl)
+    ap (λ t. if t then (number_of ds >>= negated) else positive (number_of (b ∷ ds))) (another is_digit b 45 (both_hold (is_digit b) (list_all is_digit ds) number.digits).0 refl)
     ∙ ap positive number.said
 
 -- a number of n bits and a sign is one of 64 bits
@@ -116,22 +101,11 @@ signed-reads n (negsuc k) h fits =
 is_bytes : (xs : List ℕ) → are_bytes xs ≡ true → IsBytes xs
 is_bytes xs h i = small_byte xs i h
 
--- a hex digit is another byte than one that is none
-not_hex : (b c : ℕ) → is_hex_digit b ≡ true → is_hex_digit c ≡ false → (b == c) ≡ false
-not_hex b c h e = ne_eqb b c (λ same. apart (sym h ∙ (ap is_hex_digit same ∙ e)))
-  where
-    apart : true ≡ false → ⊥
-    apart x = absurd (cc)
-
-hex_spaces : (xs : List ℕ) → list_all is_hex_digit xs ≡ true → spaceless xs ≡ true
-hex_spaces [] h = refl
-hex_spaces (b ∷ xs) h = let tests = both_hold (is_hex_digit b) (list_all is_hex_digit xs) h in both_so (not (b == 32)) (spaceless xs) (ap not (not_hex b 32 tests.0 refl)) (hex_spaces xs tests.1)
-
 pub hex-reads : (xs : List ℕ) → are_bytes xs ≡ true → Reads (λ word. decoded (decode_of word)) (encode_lower xs) xs
 hex-reads xs h =
     let back = decode_of-encode_lower xs (is_bytes xs h) in
     let ok = decode_of-ok (encode_lower xs) xs back in
-    record { spaces = record { none = hex_spaces (encode_lower xs) (list_all-from_AllPass is_hex_digit (encode_lower xs) ok.1) }; said = ap decoded back }
+    record { spaces = record { none = no-space is_hex_digit refl (encode_lower xs) (list_all-from_AllPass is_hex_digit (encode_lower xs) ok.1) }; said = ap decoded back }
 
 -- digits of bytes are no `-`
 no_dash : (b : ℕ) (xs : List ℕ) → bytes_eq (encode_lower (b ∷ xs)) (codes "-") ≡ false
@@ -179,7 +153,7 @@ flag-reads false = record { spaces = record { none = refl }; said = refl }
 -- digits are no word of letters
 no_word : (ds : List ℕ) (c : ℕ) (word : List ℕ) → 0 < length ds → list_all is_digit ds ≡ true → is_digit c ≡ false → bytes_eq ds (c ∷ word) ≡ false
 no_word [] c word some h e = absurd (omega arith)
-no_word (b ∷ ds) c word some h e = ap (λ t. t && bytes_eq ds word) (not_digit b c (both_hold (is_digit b) (list_all is_digit ds) h).0 e)
+no_word (b ∷ ds) c word some h e = ap (λ t. t && bytes_eq ds word) (another is_digit b c (both_hold (is_digit b) (list_all is_digit ds) h).0 e)
 
 pub relay-reads : (o : Option ℕ) → is_optional_byte o ≡ true → Reads relay_of (relay_word o) o
 relay-reads None h = record { spaces = record { none = refl }; said = refl }
@@ -195,7 +169,7 @@ relay-reads (Some b) h =
 -- no digit is a colon
 no_colon : (ds : List ℕ) → list_all is_digit ds ≡ true → (k : ℕ) → k < length ds → is_colon (get_or ds k 0) ≡ false
 no_colon [] h k low = absurd (omega arith)
-no_colon (b ∷ ds) h zero low = not_digit b 58 (both_hold (is_digit b) (list_all is_digit ds) h).0 refl
+no_colon (b ∷ ds) h zero low = another is_digit b 58 (both_hold (is_digit b) (list_all is_digit ds) h).0 refl
 no_colon (b ∷ ds) h (suc k) low = no_colon ds (both_hold (is_digit b) (list_all is_digit ds) h).1 k (omega arith)
 
 -- a number ends at the first colon
@@ -215,10 +189,6 @@ module _ (ds rest : List ℕ) (digits : list_all is_digit ds ≡ true) where
       ∙ (ap (drop (length ds + 1)) (sym (append_assoc ds (58 ∷ []) rest))
       ∙ drop_front (length ds + 1) (ds ++ (58 ∷ [])) rest (length-append ds (58 ∷ [])))
 
-spaceless_join : (xs ys : List ℕ) → spaceless xs ≡ true → spaceless ys ≡ true → spaceless (xs ++ ys) ≡ true
-spaceless_join [] ys hx hy = hy
-spaceless_join (x ∷ xs) ys hx hy = let tests = both_hold (not (x == 32)) (spaceless xs) hx in both_so (not (x == 32)) (spaceless (xs ++ ys)) tests.0 (spaceless_join xs ys tests.1 hy)
-
 pub entry-reads : (e : InvEntry) → is_entry e ≡ true → Reads entry_of (entry_word e) e
 unfolding entry_of
 entry-reads e h =
@@ -230,7 +200,7 @@ entry-reads e h =
     let word = decimal e.kind ++ (58 ∷ encode_lower e.id.0) in
     let same = append_assoc (decimal e.kind) (58 ∷ []) (encode_lower e.id.0) in
     subst (λ xs. Reads entry_of xs e) (sym same) (record {
-      spaces = record { none = spaceless_join (decimal e.kind) (58 ∷ encode_lower e.id.0) kind.spaces.none id.spaces.none };
+      spaces = record { none = all_join (λ b. not (b == 32)) (decimal e.kind) (58 ∷ encode_lower e.id.0) kind.spaces.none id.spaces.none };
       said =
           then_some (number_of (before_first is_colon word)) e.kind _ _ (ap number_of (before_colon (decimal e.kind) (encode_lower e.id.0) number.digits) ∙ kind.said)
           (then_some (decoded (decode_of (after_first is_colon word))) e.id.0 _ _ (ap (λ xs. decoded (decode_of xs)) (after_colon (decimal e.kind) (encode_lower e.id.0) number.digits) ∙ id.said) refl);

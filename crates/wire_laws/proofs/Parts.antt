@@ -1,7 +1,9 @@
 -- Parts of a list, told by their lengths, and tests that hold: of bytes, and of a version's fields.
-use Rattle.std.proofs.Common.{◌≡◌, ℕ, ◌^◌, ◌≤◌, Bool, true, false, List, [], ◌∷◌, ◌++◌, length, take, drop, bytes_eq, nat_le, nat_lt, ◌&&◌, ◌==◌, refl, ap, ◌∙◌, subst}
+use Rattle.std.proofs.Common.{◌≡◌, ℕ, ◌^◌, ◌≤◌, Bool, true, false, List, ◌++◌, length, take, drop, bytes_eq, nat_le, nat_lt, ◌&&◌, ◌==◌, refl, sym, ap, ◌∙◌, subst}
+use Rattle.std.specs.List.{list_all}
 use Rattle.std.proofs.Math.Seq.{take-append_seam, drop-append_seam}
 use Rattle.std.proofs.lemmas.Bool.{eqb-true, le-leb}
+use Rattle.std.proofs.lemmas.List.Folds.{list_all-append}
 use Rattle.std.proofs.lemmas.Cmp.{nat_list_eq_equiv}
 use Rattle.id_rules.specs.Bytes.{are_bytes}
 use Rattle.wire_rules.specs.Limits.{are_bytes_of, fits_signed, is_optional_byte, version_in_range}
@@ -28,18 +30,18 @@ le_holds a b h = le-leb a b h
 pub both_so : (a b : Bool) → a ≡ true → b ≡ true → (a && b) ≡ true
 both_so a b ha hb = ap (λ x. x && b) ha ∙ hb
 
--- parts of bytes are bytes, and bytes behind bytes
+-- of a list in two parts
+pub all_split : {A : Type 0} (test : A → Bool) (xs ys : List A) → list_all test (xs ++ ys) ≡ true → (list_all test xs ≡ true) × (list_all test ys ≡ true)
+all_split test xs ys h = both_hold (list_all test xs) (list_all test ys) (sym (list_all-append test xs ys) ∙ h)
+
+pub all_join : {A : Type 0} (test : A → Bool) (xs ys : List A) → list_all test xs ≡ true → list_all test ys ≡ true → list_all test (xs ++ ys) ≡ true
+all_join test xs ys hx hy = list_all-append test xs ys ∙ both_so (list_all test xs) (list_all test ys) hx hy
+
 pub bytes_split : (xs ys : List ℕ) → are_bytes (xs ++ ys) ≡ true → (are_bytes xs ≡ true) × (are_bytes ys ≡ true)
-bytes_split [] ys h = (refl, h)
-bytes_split (x ∷ xs) ys h =
-    let tests = both_hold (nat_lt x (2 ^ 8)) (are_bytes (xs ++ ys)) h in
-    let parts = bytes_split xs ys tests.1 in
-    (both_so (nat_lt x (2 ^ 8)) (are_bytes xs) tests.0 parts.0, parts.1)
+bytes_split xs ys h = all_split (λ b. nat_lt b (2 ^ 8)) xs ys h
 
 pub bytes_join : (xs ys : List ℕ) → are_bytes xs ≡ true → are_bytes ys ≡ true → are_bytes (xs ++ ys) ≡ true
-bytes_join [] ys hx hy = hy
-bytes_join (x ∷ xs) ys hx hy =
-    let tests = both_hold (nat_lt x (2 ^ 8)) (are_bytes xs) hx in both_so (nat_lt x (2 ^ 8)) (are_bytes (xs ++ ys)) tests.0 (bytes_join xs ys tests.1 hy)
+bytes_join xs ys hx hy = all_join (λ b. nat_lt b (2 ^ 8)) xs ys hx hy
 
 pub of_length : (n : ℕ) (xs : List ℕ) → are_bytes_of n xs ≡ true → length xs ≡ n
 of_length n xs h = eqb-true (length xs) n (both_hold (length xs == n) (are_bytes xs) h).0

@@ -7,7 +7,7 @@ use Rattle.std.proofs.lemmas.Nat.{le_bytes_2, le_bytes_4, le_bytes_8}
 use Rattle.id_rules.specs.Bytes.{are_bytes}
 use Rattle.wire_rules.specs.Reading.{Spot, Cursor, ◌>>=◌, wrong, bytes_at, number_at}
 use Rattle.wire_rules.specs.declared.faults.PayloadKind.TheVariants as fault
-use Rattle.wire_laws.proofs.Parts.{both_hold, bytes_split}
+use Rattle.wire_laws.proofs.Parts.{both_hold, bytes_split, le_holds}
 use Rattle.wire_laws.proofs.Readers.{cursor}
 
 -- where two steps in a row say something, the first does, and the second behind it
@@ -89,6 +89,10 @@ number_at-took_4 c r bytes e = number_took w32 (2 ^ 32) (λ xs size h. le_bytes_
 
 pub number_at-took_8 : (c : Cursor) (r : ℕ × Cursor) → are_bytes c.rest ≡ true → number_at w64 c ≡ Ok r → TookNumber w64 (2 ^ 64) c r
 number_at-took_8 c r bytes e = number_took w64 (2 ^ 64) (λ xs size h. le_bytes_8 xs (from_le_bytes w64 xs) size (λ i. small_byte xs i h) refl) bound_8 c r bytes e
+
+-- the same by a test
+pub number-tested : {w : Width} {bound : ℕ} {c : Cursor} {r : ℕ × Cursor} → TookNumber w bound c r → Took c (to_le_bytes w r.0) r.1 × (nat_lt r.0 bound ≡ true)
+number-tested {bound = bound} {r = r} n = (n.took, le_holds (suc r.0) bound n.below)
 
 -- one byte
 one_byte : (xs : List ℕ) → length xs ≡ 1 → xs ≡ from_le_bytes w8 xs ∷ []
