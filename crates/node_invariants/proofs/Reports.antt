@@ -13,6 +13,7 @@ use Rattle.pool_rules.specs.declared.limits.TheConstants.{FIRST_LIMIT}
 use Rattle.pool_rules.specs.declared.report.Ending.{Ending}
 use Rattle.pool_rules.specs.declared.report.Ending.TheVariants as ending
 use Rattle.pool_rules.specs.declared.report.Report.{Report}
+use Rattle.pool_laws.proofs.Ids.{short_id-nonzero, short_id-small}
 use Rattle.node_rules.specs.Accepter.{ask_fault, asks_on_failure, diff_fault, ending_of}
 use Rattle.node_rules.specs.Additions.{adds}
 use Rattle.node_rules.specs.Invariant.{IsReport, IsShort, IsMember, AreMembers, IsSetUp, IsBounded}
@@ -63,8 +64,7 @@ answer_short r es e = let a = answer-is r es e in record { once = rising_once 1 
 
 member_short : (keys : KeyPair) (pool : List Held) (m : Member) → IsMember keys pool m → IsShort m.short
 member_short keys pool m h =
-    let lt : sip24 keys.k0 keys.k1 m.id.0 % 0xFFFFFFFF < 0xFFFFFFFF = mod-lt (sip24 keys.k0 keys.k1 m.id.0) (lit< tt) in
-    subst IsShort (sym (ap (λ (x : Member). x.short) h.short)) (record { least = omega arith; most = omega (arith, lt) })
+    subst IsShort (sym (ap (λ (x : Member). x.short) h.short)) (record { least = let some = short_id-nonzero keys m.id in omega (arith, some); most = short_id-small keys m.id })
 
 shorts_each : (ms : List Member) → AllByRecursion (λ m. IsShort m.short) ms → AllByRecursion IsShort (shorts_of ms)
 shorts_each [] h = tt

@@ -11,7 +11,8 @@ use Rattle.wire_rules.specs.Layout.{checksum}
 use Rattle.wire_rules.specs.Stream.{Header, Whole, header_of, header_fault, by_sum, by_payload, by_header, by_length, front_of}
 use Rattle.wire_rules.specs.declared.frame.Frame.{Frame}
 use Rattle.wire_rules.specs.declared.limits.TheConstants.{PAYLOAD_LIMIT}
-use Rattle.wire_laws.proofs.Taken.{bytes_split, small_byte}
+use Rattle.wire_laws.proofs.Taken.{small_byte}
+use Rattle.wire_laws.proofs.Parts.{bytes_split}
 use Rattle.stream_laws.specs.FrameReading.{IsFirstFrame}
 
 -- the tests that a whole front has passed
@@ -27,36 +28,36 @@ pub record Judged (magic : List ℕ) (h : Header) (behind : List ℕ) (f : Frame
 whole_frame : (f g : Frame) (m n : ℕ) → Whole f m ≡ Whole g n → (f ≡ g) × (m ≡ n)
 whole_frame f g m n e = (cc, cc)
 
-sum_judged : (same : Bool) (place : ℕ) (h : Header) (payload : List ℕ) (f : Frame) (n : ℕ) → bytes_eq h.sum (checksum payload) ≡ same → by_sum same place h payload ≡ Whole f n
+sum_judged : (same : Bool) (offset : ℕ) (h : Header) (payload : List ℕ) (f : Frame) (n : ℕ) → bytes_eq h.sum (checksum payload) ≡ same → by_sum same offset h payload ≡ Whole f n
     → (h.sum ≡ checksum payload) × ((record { command = h.command; payload = payload } ≡ f) × (24 + h.size ≡ n))
 unfolding by_sum
-sum_judged false place h payload f n same e = absurd (cc)
-sum_judged true place h payload f n same e = ((bytes_eq-Decides h.sum (checksum payload)).0 same, whole_frame (record { command = h.command; payload = payload }) f (24 + h.size) n e)
+sum_judged false offset h payload f n same e = absurd (cc)
+sum_judged true offset h payload f n same e = ((bytes_eq-Decides h.sum (checksum payload)).0 same, whole_frame (record { command = h.command; payload = payload }) f (24 + h.size) n e)
 
-payload_judged : (there : Bool) (place : ℕ) (magic : List ℕ) (h : Header) (behind : List ℕ) (f : Frame) (n : ℕ) → magic ≡ h.magic → is_command h.command ≡ true → h.size ≤ PAYLOAD_LIMIT
-    → nat_le h.size (length behind) ≡ there → by_payload there place h behind ≡ Whole f n → Judged magic h behind f n
+payload_judged : (there : Bool) (offset : ℕ) (magic : List ℕ) (h : Header) (behind : List ℕ) (f : Frame) (n : ℕ) → magic ≡ h.magic → is_command h.command ≡ true → h.size ≤ PAYLOAD_LIMIT
+    → nat_le h.size (length behind) ≡ there → by_payload there offset h behind ≡ Whole f n → Judged magic h behind f n
 unfolding by_payload
-payload_judged false place magic h behind f n m c w there e = absurd (cc)
-payload_judged true place magic h behind f n m c w there e =
-    let s = sum_judged (bytes_eq h.sum (checksum (take h.size behind))) place h (take h.size behind) f n refl e in
+payload_judged false offset magic h behind f n m c w there e = absurd (cc)
+payload_judged true offset magic h behind f n m c w there e =
+    let s = sum_judged (bytes_eq h.sum (checksum (take h.size behind))) offset h (take h.size behind) f n refl e in
     record { magic_stands = m; command = c; within = w; enough = leb-true h.size (length behind) there; sum = s.0; frame = s.1.0; size = s.1.1 }
 
-header_judged : (m s w : Bool) (place : ℕ) (magic : List ℕ) (h : Header) (behind : List ℕ) (f : Frame) (n : ℕ) → bytes_eq magic h.magic ≡ m → is_command h.command ≡ s → nat_le h.size PAYLOAD_LIMIT ≡ w
-    → by_header (header_fault place h.size m s w) place h behind ≡ Whole f n → Judged magic h behind f n
+header_judged : (m s w : Bool) (offset : ℕ) (magic : List ℕ) (h : Header) (behind : List ℕ) (f : Frame) (n : ℕ) → bytes_eq magic h.magic ≡ m → is_command h.command ≡ s → nat_le h.size PAYLOAD_LIMIT ≡ w
+    → by_header (header_fault offset h.size m s w) offset h behind ≡ Whole f n → Judged magic h behind f n
 unfolding by_header header_fault
-header_judged false s w place magic h behind f n em es ew e = absurd (cc)
-header_judged true false w place magic h behind f n em es ew e = absurd (cc)
-header_judged true true false place magic h behind f n em es ew e = absurd (cc)
-header_judged true true true place magic h behind f n em es ew e =
-    payload_judged (nat_le h.size (length behind)) place magic h behind f n ((bytes_eq-Decides magic h.magic).0 em) es (leb-true h.size PAYLOAD_LIMIT ew) refl e
+header_judged false s w offset magic h behind f n em es ew e = absurd (cc)
+header_judged true false w offset magic h behind f n em es ew e = absurd (cc)
+header_judged true true false offset magic h behind f n em es ew e = absurd (cc)
+header_judged true true true offset magic h behind f n em es ew e =
+    payload_judged (nat_le h.size (length behind)) offset magic h behind f n ((bytes_eq-Decides magic h.magic).0 em) es (leb-true h.size PAYLOAD_LIMIT ew) refl e
 
-length_judged : (long : Bool) (magic : List ℕ) (place : ℕ) (bytes : List ℕ) (f : Frame) (n : ℕ) → nat_le 24 (length bytes) ≡ long → by_length long magic place bytes ≡ Whole f n
+length_judged : (long : Bool) (magic : List ℕ) (offset : ℕ) (bytes : List ℕ) (f : Frame) (n : ℕ) → nat_le 24 (length bytes) ≡ long → by_length long magic offset bytes ≡ Whole f n
     → (24 ≤ length bytes) × Judged magic (header_of bytes) (drop 24 bytes) f n
 unfolding by_length
-length_judged false magic place bytes f n long e = absurd (cc)
-length_judged true magic place bytes f n long e =
+length_judged false magic offset bytes f n long e = absurd (cc)
+length_judged true magic offset bytes f n long e =
     let h = header_of bytes in
-    (leb-true 24 (length bytes) long, header_judged (bytes_eq magic h.magic) (is_command h.command) (nat_le h.size PAYLOAD_LIMIT) place magic h (drop 24 bytes) f n refl refl refl e)
+    (leb-true 24 (length bytes) long, header_judged (bytes_eq magic h.magic) (is_command h.command) (nat_le h.size PAYLOAD_LIMIT) offset magic h (drop 24 bytes) f n refl refl refl e)
 
 -- bytes as their parts
 cut_more : (a b : ℕ) (bytes : List ℕ) → a ≤ b → drop a bytes ≡ slice_range bytes a b ++ drop b bytes
@@ -120,14 +121,14 @@ found_by magic bytes f n sound long j = record {
     tail = sym (take-append-drop s (drop 24 bytes)) ∙ ap (λ xs. payload ++ xs) (drop-drop s 24 bytes)
 
 -- a whole front is a sound frame, and the bytes begin with it
-pub front-found : (magic : List ℕ) (place : ℕ) (bytes : List ℕ) (f : Frame) (n : ℕ) → are_bytes bytes ≡ true → front_of magic place bytes ≡ Whole f n → IsFirstFrame magic bytes f n
-front-found magic place bytes f n sound e =
-    let j = length_judged (nat_le 24 (length bytes)) magic place bytes f n refl e in
+pub front-found : (magic : List ℕ) (offset : ℕ) (bytes : List ℕ) (f : Frame) (n : ℕ) → are_bytes bytes ≡ true → front_of magic offset bytes ≡ Whole f n → IsFirstFrame magic bytes f n
+front-found magic offset bytes f n sound e =
+    let j = length_judged (nat_le 24 (length bytes)) magic offset bytes f n refl e in
     subst (λ g. IsFirstFrame magic bytes g n) j.1.frame (subst (λ k. IsFirstFrame magic bytes (record { command = slice_range bytes 4 16; payload = take (header_of bytes).size (drop 24 bytes) }) k) j.1.size (found_by magic bytes f n sound j.0 j.1))
 
 -- it has at least the bytes of a header, and no more than there are
-pub whole-size : (magic : List ℕ) (place : ℕ) (bytes : List ℕ) (f : Frame) (n : ℕ) → front_of magic place bytes ≡ Whole f n → (24 ≤ n) × (n ≤ length bytes)
-whole-size magic place bytes f n e =
-    let j = length_judged (nat_le 24 (length bytes)) magic place bytes f n refl e in
+pub whole-size : (magic : List ℕ) (offset : ℕ) (bytes : List ℕ) (f : Frame) (n : ℕ) → front_of magic offset bytes ≡ Whole f n → (24 ≤ n) × (n ≤ length bytes)
+whole-size magic offset bytes f n e =
+    let j = length_judged (nat_le 24 (length bytes)) magic offset bytes f n refl e in
     let long = j.0 in let enough = j.1.enough in let size = j.1.size in let left = length-drop 24 bytes in
     (omega arith, omega arith)

@@ -9,9 +9,9 @@ use Rattle.wire_rules.specs.declared.frame.Frame.{Frame}
 use Rattle.wire_rules.specs.declared.frame.FrameFault.{FrameFault}
 use Rattle.stream_laws.specs.FrameReading.{FrameRead, frames_before, frames_by, frames_of, frames_of_pieces, read_frames, frames_with_more}
 use Rattle.stream_laws.proofs.Fronts.{front_of-frame, frame-length, short_front}
-use Rattle.stream_laws.proofs.Stays.{front-stays, partial-anywhere}
+use Rattle.stream_laws.proofs.Stays.{partial-anywhere, whole-stays}
 use Rattle.stream_laws.proofs.Found.{bytes_cut, front-found, whole-size}
-use Rattle.stream_laws.proofs.Items.{Step, Wait, Take, Halt, Reading, IsStep, IsTaken, IsFound, IsRead, ended, stepped, read_items, reading, reading-next, reading-fed, read-one, read-same, read-all}
+use Rattle.stream_laws.proofs.Items.{Step, Wait, Take, Halt, Reading, IsStep, IsTaken, IsFound, IsRead, last_step, reading_by, read_items, reading, reading-next, reading-with, read-one, read-same, read-all}
 
 -- ---- a front as a step
 
@@ -38,12 +38,6 @@ is_faulty Partial fault e = absurd (cc)
 is_faulty (Whole f n) fault e = absurd (cc)
 is_faulty (Faulty other) fault e = let same : other ≡ fault = cc in ap Faulty same
 
-unsettled : (f : Frame) (n : ℕ) → Whole f n ≡ Partial → ⊥
-unsettled f n e = absurd (cc)
-
-pub whole-stays : (magic : List ℕ) (p : ℕ) (bytes more : List ℕ) (f : Frame) (n : ℕ) → front_of magic p bytes ≡ Whole f n → front_of magic p (bytes ++ more) ≡ Whole f n
-whole-stays magic p bytes more f n e = front-stays magic p bytes more (λ partial. unsettled f n (sym e ∙ partial)) ∙ e
-
 abbrev pub as_read : Reading Frame FrameFault → FrameRead
 as_read r = record { frames = r.items; offset = r.offset; unread = r.unread; stop = r.stop }
 
@@ -64,7 +58,7 @@ module _ (magic : List ℕ) where
   -- ---- frames read from the front
 
   one_by_one : (x : Front) (p : ℕ) (bytes : List ℕ) (f : ℕ → List ℕ → FrameRead) (g : ℕ → List ℕ → Reading Frame FrameFault) → ((q : ℕ) (rest : List ℕ) → f q rest ≡ as_read (g q rest))
-      → frames_by x p bytes f ≡ as_read (stepped (step_of x) p bytes g)
+      → frames_by x p bytes f ≡ as_read (reading_by (step_of x) p bytes g)
   one_by_one Partial p bytes f g same = refl
   one_by_one (Whole frame n) p bytes f g same = ap (frames_before (frame ∷ [])) (same (later p n) (drop n bytes))
   one_by_one (Faulty fault) p bytes f g same = refl
@@ -90,7 +84,7 @@ module _ (magic : List ℕ) where
       let r = reading (frame_step magic) p bytes in
       ap (λ x. frames_with_more magic x piece) (frames_of-reading p bytes)
       ∙ (ap (frames_before r.items) (frames_of-reading r.offset (r.unread ++ piece))
-      ∙ (ap as_read (reading-fed (frame_step magic) frame-steps p bytes piece)
+      ∙ (ap as_read (reading-with (frame_step magic) frame-steps p bytes piece)
       ∙ sym (frames_of-reading p (bytes ++ piece))))
 
   pieces_on : (p : ℕ) (bytes : List ℕ) (pieces : List (List ℕ)) → fold (frames_with_more magic) (frames_of magic p bytes) pieces ≡ frames_of magic p (bytes ++ concat pieces)
@@ -106,46 +100,46 @@ module _ (magic : List ℕ) where
 
   -- ---- what frames and a rest are by the relations
 
-  abbrev pub Parted : ℕ → List ℕ → Reading Frame FrameFault → Type 0
-  Parted p bytes r = IsRead (frame_step magic) (frame_bytes magic) IsFrame p bytes r
+  abbrev pub IsFrameRead : ℕ → List ℕ → Reading Frame FrameFault → Type 0
+  IsFrameRead p bytes r = IsRead (frame_step magic) (frame_bytes magic) IsFrame p bytes r
 
-  pub parted-one : length magic ≡ 4 → (p : ℕ) (bytes : List ℕ) (r : Reading Frame FrameFault) → p < 2 ^ 64 → Parted p bytes r → frames_of magic p bytes ≡ as_read r
-  parted-one four p bytes r low parted = frames_of-reading p bytes ∙ ap as_read (read-one (frame_step magic) (frame_bytes magic) IsFrame frame-steps (frame-taken four) p bytes r low parted)
+  pub is_read-one : length magic ≡ 4 → (p : ℕ) (bytes : List ℕ) (r : Reading Frame FrameFault) → p < 2 ^ 64 → IsFrameRead p bytes r → frames_of magic p bytes ≡ as_read r
+  is_read-one four p bytes r low read = frames_of-reading p bytes ∙ ap as_read (read-one (frame_step magic) (frame_bytes magic) IsFrame frame-steps (frame-taken four) p bytes r low read)
 
-  pub parted-same : length magic ≡ 4 → (p : ℕ) (bytes : List ℕ) (r s : Reading Frame FrameFault) → Parted p bytes r → Parted p bytes s → r ≡ s
-  parted-same four = read-same (frame_step magic) (frame_bytes magic) IsFrame frame-steps (frame-taken four)
+  pub is_read-same : length magic ≡ 4 → (p : ℕ) (bytes : List ℕ) (r s : Reading Frame FrameFault) → IsFrameRead p bytes r → IsFrameRead p bytes s → r ≡ s
+  is_read-same four = read-same (frame_step magic) (frame_bytes magic) IsFrame frame-steps (frame-taken four)
 
-  pub parted-all : (p : ℕ) (bytes : List ℕ) → p < 2 ^ 64 → are_bytes bytes ≡ true → Parted p bytes (reading (frame_step magic) p bytes)
-  parted-all = read-all (frame_step magic) (frame_bytes magic) IsFrame frame-steps frame-found
+  pub is_read-all : (p : ℕ) (bytes : List ℕ) → p < 2 ^ 64 → are_bytes bytes ≡ true → IsFrameRead p bytes (reading (frame_step magic) p bytes)
+  is_read-all = read-all (frame_step magic) (frame_bytes magic) IsFrame frame-steps frame-found
 
   -- so many frames and an unfinished rest
-  pub frames-parted : (p : ℕ) (bytes : List ℕ) (fs : List Frame) (rest : List ℕ) → Frames magic bytes fs rest
-      → Parted p bytes (record { items = fs; offset = later p (length bytes - length rest); unread = rest; stop = None })
-  frames-parted p bytes fs rest frames = record {
+  pub is_read-frames : (p : ℕ) (bytes : List ℕ) (fs : List Frame) (rest : List ℕ) → Frames magic bytes fs rest
+      → IsFrameRead p bytes (record { items = fs; offset = later p (length bytes - length rest); unread = rest; stop = None })
+  is_read-frames p bytes fs rest frames = record {
     whole = frames.whole;
     each = frames.each;
     offset = refl;
     ends = ap step_of (partial-anywhere magic 0 (later p (length bytes - length rest)) rest frames.partial.front);
   }
 
-  pub parted-frames : (p : ℕ) (bytes : List ℕ) (r : Reading Frame FrameFault) → Parted p bytes r → r.stop ≡ None → Frames magic bytes r.items r.unread
-  parted-frames p bytes r parted e = record {
-    whole = parted.whole;
-    each = parted.each;
-    partial = record { front = partial-anywhere magic r.offset 0 r.unread (is_partial (front_of magic r.offset r.unread) (parted.ends ∙ ap ended e)) };
+  pub frames-is_read : (p : ℕ) (bytes : List ℕ) (r : Reading Frame FrameFault) → IsFrameRead p bytes r → r.stop ≡ None → Frames magic bytes r.items r.unread
+  frames-is_read p bytes r read e = record {
+    whole = read.whole;
+    each = read.each;
+    partial = record { front = partial-anywhere magic r.offset 0 r.unread (is_partial (front_of magic r.offset r.unread) (read.ends ∙ ap last_step e)) };
   }
 
   -- so many frames and a fault
-  pub stop-parted : (p : ℕ) (bytes : List ℕ) (fs : List Frame) (fault : FrameFault) → (s : FrameStop magic p bytes fs fault)
-      → Parted p bytes (record { items = fs; offset = later p (length bytes - length s.rest); unread = s.rest; stop = Some fault })
-  stop-parted p bytes fs fault s = record { whole = s.whole; each = s.each; offset = refl; ends = ap step_of s.faulty }
+  pub is_read-stop : (p : ℕ) (bytes : List ℕ) (fs : List Frame) (fault : FrameFault) → (s : FrameStop magic p bytes fs fault)
+      → IsFrameRead p bytes (record { items = fs; offset = later p (length bytes - length s.rest); unread = s.rest; stop = Some fault })
+  is_read-stop p bytes fs fault s = record { whole = s.whole; each = s.each; offset = refl; ends = ap step_of s.faulty }
 
-  pub parted-stop : (p : ℕ) (bytes : List ℕ) (r : Reading Frame FrameFault) (fault : FrameFault) → Parted p bytes r → r.stop ≡ Some fault → FrameStop magic p bytes r.items fault
-  parted-stop p bytes r fault parted e =
+  pub stop-is_read : (p : ℕ) (bytes : List ℕ) (r : Reading Frame FrameFault) (fault : FrameFault) → IsFrameRead p bytes r → r.stop ≡ Some fault → FrameStop magic p bytes r.items fault
+  stop-is_read p bytes r fault read e =
       let at = later p (length bytes - length r.unread) in
       record {
         rest = r.unread;
-        whole = parted.whole;
-        each = parted.each;
-        faulty = is_faulty (front_of magic at r.unread) fault (subst (λ q. frame_step magic q r.unread ≡ Halt fault) parted.offset (parted.ends ∙ ap ended e));
+        whole = read.whole;
+        each = read.each;
+        faulty = is_faulty (front_of magic at r.unread) fault (subst (λ q. frame_step magic q r.unread ≡ Halt fault) read.offset (read.ends ∙ ap last_step e));
       }

@@ -12,10 +12,9 @@ use Rattle.wire_laws.proofs.Messages.{message_of-frame_of}
 use Rattle.wire_laws.proofs.Said.{message_of-said}
 use Rattle.wire_laws.proofs.Sound.{frame_of-sound}
 use Rattle.stream_laws.proofs.Fronts.{front_of-frame, frame-length, short_front}
-use Rattle.stream_laws.proofs.Stays.{partial-anywhere}
+use Rattle.stream_laws.proofs.Stays.{fault-stays, partial-anywhere, whole-stays}
 use Rattle.stream_laws.proofs.Found.{bytes_cut, front-found, whole-size}
-use Rattle.stream_laws.proofs.FrameSteps.{whole-stays}
-use Rattle.stream_laws.proofs.Items.{Step, Wait, Take, Halt, Reading, IsStep, IsTaken, IsFound, IsRead, ended, stepped, read_items, reading, read-one, read-same, read-all}
+use Rattle.stream_laws.proofs.Items.{Step, Wait, Take, Halt, Reading, IsStep, IsTaken, IsFound, IsRead, last_step, reading_by, read_items, reading, read-one, read-same, read-all}
 
 -- ---- a front as a step
 
@@ -67,6 +66,11 @@ halts magic p bytes (OfPayload fault) (AtPayload f n stop front e) = ap step_of 
 abbrev pub as_read : Reading Message StreamFault → StreamRead
 as_read r = record { messages = r.items; place = r.offset; rest = r.unread; stop = r.stop }
 
+-- a fault is one whatever follows
+pub stops-stay : (magic : List ℕ) (p : ℕ) (bytes more : List ℕ) (fault : StreamFault) → StopsAt magic p bytes fault → StopsAt magic p (bytes ++ more) fault
+stops-stay magic p bytes more (OfFrame fault) (AtFrame stop front) = AtFrame stop (fault-stays magic p bytes more stop front)
+stops-stay magic p bytes more (OfPayload fault) (AtPayload f n stop front e) = AtPayload f n stop (whole-stays magic p bytes more f n front) e
+
 module _ (magic : List ℕ) where
   message-steps : IsStep (message_step magic)
   message-steps = record {
@@ -93,13 +97,13 @@ module _ (magic : List ℕ) where
   -- ---- a stream read from its front
 
   one_message : (r : Result Message PayloadFault) (n p : ℕ) (bytes : List ℕ) (f : ℕ → List ℕ → StreamRead) (g : ℕ → List ℕ → Reading Message StreamFault) → ((q : ℕ) (rest : List ℕ) → f q rest ≡ as_read (g q rest))
-      → read_message r n p bytes f ≡ as_read (stepped (by_payload r n) p bytes g)
+      → read_message r n p bytes f ≡ as_read (reading_by (by_payload r n) p bytes g)
   unfolding read_message
   one_message (Ok m) n p bytes f g same = ap (behind m) (same (later p n) (drop n bytes))
   one_message (Err fault) n p bytes f g same = refl
 
   one_front : (x : Front) (p : ℕ) (bytes : List ℕ) (f : ℕ → List ℕ → StreamRead) (g : ℕ → List ℕ → Reading Message StreamFault) → ((q : ℕ) (rest : List ℕ) → f q rest ≡ as_read (g q rest))
-      → read_front x p bytes f ≡ as_read (stepped (step_of x) p bytes g)
+      → read_front x p bytes f ≡ as_read (reading_by (step_of x) p bytes g)
   unfolding read_front
   one_front Partial p bytes f g same = refl
   one_front (Whole frame n) p bytes f g same = one_message (message_of frame) n p bytes f g same
@@ -115,44 +119,44 @@ module _ (magic : List ℕ) where
 
   -- ---- what messages and a rest are by the relations
 
-  abbrev pub Parted : ℕ → List ℕ → Reading Message StreamFault → Type 0
-  Parted p bytes r = IsRead (message_step magic) (spelled magic) IsMessage p bytes r
+  abbrev pub IsStreamRead : ℕ → List ℕ → Reading Message StreamFault → Type 0
+  IsStreamRead p bytes r = IsRead (message_step magic) (spelled magic) IsMessage p bytes r
 
-  pub parted-one : length magic ≡ 4 → (p : ℕ) (bytes : List ℕ) (r : Reading Message StreamFault) → p < 2 ^ 64 → Parted p bytes r → reading (message_step magic) p bytes ≡ r
-  parted-one four = read-one (message_step magic) (spelled magic) IsMessage message-steps (message-taken four)
+  pub is_read-one : length magic ≡ 4 → (p : ℕ) (bytes : List ℕ) (r : Reading Message StreamFault) → p < 2 ^ 64 → IsStreamRead p bytes r → reading (message_step magic) p bytes ≡ r
+  is_read-one four = read-one (message_step magic) (spelled magic) IsMessage message-steps (message-taken four)
 
-  pub parted-same : length magic ≡ 4 → (p : ℕ) (bytes : List ℕ) (r s : Reading Message StreamFault) → Parted p bytes r → Parted p bytes s → r ≡ s
-  parted-same four = read-same (message_step magic) (spelled magic) IsMessage message-steps (message-taken four)
+  pub is_read-same : length magic ≡ 4 → (p : ℕ) (bytes : List ℕ) (r s : Reading Message StreamFault) → IsStreamRead p bytes r → IsStreamRead p bytes s → r ≡ s
+  is_read-same four = read-same (message_step magic) (spelled magic) IsMessage message-steps (message-taken four)
 
-  pub parted-all : (p : ℕ) (bytes : List ℕ) → p < 2 ^ 64 → are_bytes bytes ≡ true → Parted p bytes (reading (message_step magic) p bytes)
-  parted-all = read-all (message_step magic) (spelled magic) IsMessage message-steps message-found
+  pub is_read-all : (p : ℕ) (bytes : List ℕ) → p < 2 ^ 64 → are_bytes bytes ≡ true → IsStreamRead p bytes (reading (message_step magic) p bytes)
+  is_read-all = read-all (message_step magic) (spelled magic) IsMessage message-steps message-found
 
-  pub stream-parted : (p : ℕ) (bytes : List ℕ) (ms : List Message) (rest : List ℕ) → Stream magic bytes ms rest
-      → Parted p bytes (record { items = ms; offset = later p (length bytes - length rest); unread = rest; stop = None })
-  stream-parted p bytes ms rest stream = record {
+  pub is_read-stream : (p : ℕ) (bytes : List ℕ) (ms : List Message) (rest : List ℕ) → Stream magic bytes ms rest
+      → IsStreamRead p bytes (record { items = ms; offset = later p (length bytes - length rest); unread = rest; stop = None })
+  is_read-stream p bytes ms rest stream = record {
     whole = stream.whole;
     each = stream.each;
     offset = refl;
     ends = ap step_of (partial-anywhere magic 0 (later p (length bytes - length rest)) rest stream.partial.front);
   }
 
-  pub parted-stream : (p : ℕ) (bytes : List ℕ) (r : Reading Message StreamFault) → Parted p bytes r → r.stop ≡ None → Stream magic bytes r.items r.unread
-  parted-stream p bytes r parted e = record {
-    whole = parted.whole;
-    each = parted.each;
-    partial = record { front = partial-anywhere magic r.offset 0 r.unread (is_partial (front_of magic r.offset r.unread) (parted.ends ∙ ap ended e)) };
+  pub stream-is_read : (p : ℕ) (bytes : List ℕ) (r : Reading Message StreamFault) → IsStreamRead p bytes r → r.stop ≡ None → Stream magic bytes r.items r.unread
+  stream-is_read p bytes r read e = record {
+    whole = read.whole;
+    each = read.each;
+    partial = record { front = partial-anywhere magic r.offset 0 r.unread (is_partial (front_of magic r.offset r.unread) (read.ends ∙ ap last_step e)) };
   }
 
-  pub stop-parted : (p : ℕ) (bytes : List ℕ) (ms : List Message) (fault : StreamFault) → (s : Stop magic p bytes ms fault)
-      → Parted p bytes (record { items = ms; offset = later p (length bytes - length s.rest); unread = s.rest; stop = Some fault })
-  stop-parted p bytes ms fault s = record { whole = s.whole; each = s.each; offset = refl; ends = halts magic (later p (length bytes - length s.rest)) s.rest fault s.faulty }
+  pub is_read-stop : (p : ℕ) (bytes : List ℕ) (ms : List Message) (fault : StreamFault) → (s : Stop magic p bytes ms fault)
+      → IsStreamRead p bytes (record { items = ms; offset = later p (length bytes - length s.rest); unread = s.rest; stop = Some fault })
+  is_read-stop p bytes ms fault s = record { whole = s.whole; each = s.each; offset = refl; ends = halts magic (later p (length bytes - length s.rest)) s.rest fault s.faulty }
 
-  pub parted-stop : (p : ℕ) (bytes : List ℕ) (r : Reading Message StreamFault) (fault : StreamFault) → Parted p bytes r → r.stop ≡ Some fault → Stop magic p bytes r.items fault
-  parted-stop p bytes r fault parted e =
+  pub stop-is_read : (p : ℕ) (bytes : List ℕ) (r : Reading Message StreamFault) (fault : StreamFault) → IsStreamRead p bytes r → r.stop ≡ Some fault → Stop magic p bytes r.items fault
+  stop-is_read p bytes r fault read e =
       let at = later p (length bytes - length r.unread) in
       record {
         rest = r.unread;
-        whole = parted.whole;
-        each = parted.each;
-        faulty = stops_by magic at r.unread (front_of magic at r.unread) fault refl (subst (λ q. message_step magic q r.unread ≡ Halt fault) parted.offset (parted.ends ∙ ap ended e));
+        whole = read.whole;
+        each = read.each;
+        faulty = stops_by magic at r.unread (front_of magic at r.unread) fault refl (subst (λ q. message_step magic q r.unread ≡ Halt fault) read.offset (read.ends ∙ ap last_step e));
       }

@@ -7,7 +7,7 @@ use Rattle.id_rules.specs.Bytes.{are_bytes}
 use Rattle.wire_rules.specs.Layout.{frame_bytes, on_wire, spelled}
 use Rattle.wire_rules.specs.Limits.{IsFrame, IsMessage}
 use Rattle.wire_rules.specs.Reading.{message_of}
-use Rattle.wire_rules.specs.Stream.{AtFrame, AtPayload, Frames, FrameStop, OfFrame, OfPayload, Stop, Stream, StreamFault, later, stream_of}
+use Rattle.wire_rules.specs.Stream.{AtFrame, AtPayload, Frames, FrameStop, OfFrame, OfPayload, Stop, StopsAt, Stream, StreamFault, later, stream_of}
 use Rattle.wire_rules.specs.declared.faults.PayloadFault.{PayloadFault}
 use Rattle.wire_rules.specs.declared.frame.Frame.{Frame}
 use Rattle.wire_rules.specs.declared.frame.FrameFault.{FrameFault}
@@ -15,8 +15,8 @@ use Rattle.wire_rules.specs.declared.message.Message.{Message}
 use Rattle.wire_laws.proofs.Said.{message_of-said}
 use Rattle.stream_laws.specs.StreamReading.{IsReadAs, IsStoppedAs}
 use Rattle.stream_laws.proofs.Fronts.{front_of-frame}
-use Rattle.stream_laws.proofs.Items.{Reading, reading, one_fault, no_fault}
-use Rattle.stream_laws.proofs.MessageSteps.{message_step, stream_of-reading, stream-parted, parted-all, parted-stream, parted-one, parted-same, parted-stop, stop-parted}
+use Rattle.stream_laws.proofs.Items.{join-each, join-offset, join-whole, more-offset, more-whole, Reading, reading, one_fault, no_fault}
+use Rattle.stream_laws.proofs.MessageSteps.{stops-stay, message_step, stream_of-reading, is_read-stream, is_read-all, stream-is_read, is_read-one, is_read-same, stop-is_read, is_read-stop}
 
 -- a rest of bytes is read, from an offset on
 abbrev rest_at : ℕ → List ℕ → List Message → List ℕ → Option StreamFault → Reading Message StreamFault
@@ -27,30 +27,30 @@ rest_at p bytes ms rest stop = record { items = ms; offset = later p (length byt
 module _ (magic : List ℕ) (bytes : List ℕ) (ms : List Message) (four : length magic ≡ 4) where
   pub stream_of-stream : (rest : List ℕ) → Stream magic bytes ms rest → IsReadAs ms rest (stream_of magic bytes)
   stream_of-stream rest s =
-      let same = parted-one magic four 0 bytes (rest_at 0 bytes ms rest None) (lit< tt) (stream-parted magic 0 bytes ms rest s) in
+      let same = is_read-one magic four 0 bytes (rest_at 0 bytes ms rest None) (lit< tt) (is_read-stream magic 0 bytes ms rest s) in
       subst (IsReadAs ms rest) (sym (stream_of-reading magic bytes)) (record { messages = λ i. (same i).items; left = λ i. (same i).unread; unstopped = λ i. (same i).stop })
 
   pub stream_of-stop : (fault : StreamFault) → Stop magic 0 bytes ms fault → IsStoppedAs ms fault (stream_of magic bytes)
   stream_of-stop fault s =
-      let same = parted-one magic four 0 bytes (rest_at 0 bytes ms s.rest (Some fault)) (lit< tt) (stop-parted magic 0 bytes ms fault s) in
+      let same = is_read-one magic four 0 bytes (rest_at 0 bytes ms s.rest (Some fault)) (lit< tt) (is_read-stop magic 0 bytes ms fault s) in
       subst (IsStoppedAs ms fault) (sym (stream_of-reading magic bytes)) (record { messages = λ i. (same i).items; stopped = λ i. (same i).stop })
 
 module _ (magic : List ℕ) (bytes : List ℕ) (sound : are_bytes bytes ≡ true) where
   pub stream-of : (stream_of magic bytes).stop ≡ None → Stream magic bytes (stream_of magic bytes).messages (stream_of magic bytes).rest
   stream-of =
       subst (λ r. r.stop ≡ None → Stream magic bytes r.messages r.rest) (sym (stream_of-reading magic bytes))
-      (parted-stream magic 0 bytes (reading (message_step magic) 0 bytes) (parted-all magic 0 bytes (lit< tt) sound))
+      (stream-is_read magic 0 bytes (reading (message_step magic) 0 bytes) (is_read-all magic 0 bytes (lit< tt) sound))
 
   pub stop-of : (fault : StreamFault) → (stream_of magic bytes).stop ≡ Some fault → Stop magic 0 bytes (stream_of magic bytes).messages fault
   stop-of fault =
       subst (λ r. r.stop ≡ Some fault → Stop magic 0 bytes r.messages fault) (sym (stream_of-reading magic bytes))
-      (parted-stop magic 0 bytes (reading (message_step magic) 0 bytes) fault (parted-all magic 0 bytes (lit< tt) sound))
+      (stop-is_read magic 0 bytes (reading (message_step magic) 0 bytes) fault (is_read-all magic 0 bytes (lit< tt) sound))
 
 module _ (magic : List ℕ) (p : ℕ) (bytes : List ℕ) (low : p < 2 ^ 64) (sound : are_bytes bytes ≡ true) where
   one_of : (r : Reading Message StreamFault) (o : Option StreamFault) → reading (message_step magic) p bytes ≡ r → r.stop ≡ o
       → ((ms : List Message) × (rest : List ℕ) × Stream magic bytes ms rest) ⊎ ((ms : List Message) × (fault : StreamFault) × Stop magic p bytes ms fault)
-  one_of r None same e = inl (r.items, r.unread, subst (λ x. x.stop ≡ None → Stream magic bytes x.items x.unread) same (parted-stream magic p bytes (reading (message_step magic) p bytes) (parted-all magic p bytes low sound)) e)
-  one_of r (Some fault) same e = inr (r.items, fault, subst (λ x. x.stop ≡ Some fault → Stop magic p bytes x.items fault) same (parted-stop magic p bytes (reading (message_step magic) p bytes) fault (parted-all magic p bytes low sound)) e)
+  one_of r None same e = inl (r.items, r.unread, subst (λ x. x.stop ≡ None → Stream magic bytes x.items x.unread) same (stream-is_read magic p bytes (reading (message_step magic) p bytes) (is_read-all magic p bytes low sound)) e)
+  one_of r (Some fault) same e = inr (r.items, fault, subst (λ x. x.stop ≡ Some fault → Stop magic p bytes x.items fault) same (stop-is_read magic p bytes (reading (message_step magic) p bytes) fault (is_read-all magic p bytes low sound)) e)
 
   -- one of both applies
   pub stream-or-stop : ((ms : List Message) × (rest : List ℕ) × Stream magic bytes ms rest) ⊎ ((ms : List Message) × (fault : StreamFault) × Stop magic p bytes ms fault)
@@ -61,19 +61,46 @@ module _ (magic : List ℕ) (p : ℕ) (bytes : List ℕ) (low : p < 2 ^ 64) (sou
 module _ (magic : List ℕ) (four : length magic ≡ 4) (bytes : List ℕ) (ms ns : List Message) where
   pub stream-one : (rest left : List ℕ) → Stream magic bytes ms rest → Stream magic bytes ns left → (ms ≡ ns) × (rest ≡ left)
   stream-one rest left a b =
-      let same = parted-same magic four 0 bytes (rest_at 0 bytes ms rest None) (rest_at 0 bytes ns left None) (stream-parted magic 0 bytes ms rest a) (stream-parted magic 0 bytes ns left b) in
+      let same = is_read-same magic four 0 bytes (rest_at 0 bytes ms rest None) (rest_at 0 bytes ns left None) (is_read-stream magic 0 bytes ms rest a) (is_read-stream magic 0 bytes ns left b) in
       (λ i. (same i).items, λ i. (same i).unread)
 
   pub stop-one : (p : ℕ) (fault other : StreamFault) → Stop magic p bytes ms fault → Stop magic p bytes ns other → (ms ≡ ns) × (fault ≡ other)
   stop-one p fault other a b =
-      let same = parted-same magic four p bytes (rest_at p bytes ms a.rest (Some fault)) (rest_at p bytes ns b.rest (Some other)) (stop-parted magic p bytes ms fault a) (stop-parted magic p bytes ns other b) in
+      let same = is_read-same magic four p bytes (rest_at p bytes ms a.rest (Some fault)) (rest_at p bytes ns b.rest (Some other)) (is_read-stop magic p bytes ms fault a) (is_read-stop magic p bytes ns other b) in
       (λ i. (same i).items, one_fault fault other (λ i. (same i).stop))
 
   -- not both apply
   pub stream-apart : (p : ℕ) (rest : List ℕ) (fault : StreamFault) → Stream magic bytes ms rest → Stop magic p bytes ns fault → ⊥
   stream-apart p rest fault a b =
-      let same = parted-same magic four p bytes (rest_at p bytes ms rest None) (rest_at p bytes ns b.rest (Some fault)) (stream-parted magic p bytes ms rest a) (stop-parted magic p bytes ns fault b) in
+      let same = is_read-same magic four p bytes (rest_at p bytes ms rest None) (rest_at p bytes ns b.rest (Some fault)) (is_read-stream magic p bytes ms rest a) (is_read-stop magic p bytes ns fault b) in
       no_fault fault (λ i. (same i).stop)
+
+-- ---- parts one after another
+
+module _ (magic p rest q : List ℕ) (ms ns : List Message) (first : Stream magic p ms rest) where
+  pub stream-join : (left : List ℕ) → Stream magic (rest ++ q) ns left → Stream magic (p ++ q) (ms ++ ns) left
+  stream-join left second = record {
+    whole = join-whole (spelled magic) p rest q left ms ns first.whole second.whole;
+    each = join-each IsMessage ms ns first.each second.each;
+    partial = second.partial;
+  }
+
+  pub stop-join : (offset : ℕ) (fault : StreamFault) → Stop magic (later offset (length p - length rest)) (rest ++ q) ns fault → Stop magic offset (p ++ q) (ms ++ ns) fault
+  stop-join offset fault second = record {
+    rest = second.rest;
+    whole = join-whole (spelled magic) p rest q second.rest ms ns first.whole second.whole;
+    each = join-each IsMessage ms ns first.each second.each;
+    faulty = subst (λ at. StopsAt magic at second.rest fault) (join-offset (spelled magic) p rest q second.rest ms ns first.whole second.whole offset) second.faulty;
+  }
+
+-- a fault is one whatever follows
+pub stop-stays : (magic : List ℕ) (offset : ℕ) (p q : List ℕ) (ms : List Message) (fault : StreamFault) → Stop magic offset p ms fault → Stop magic offset (p ++ q) ms fault
+stop-stays magic offset p q ms fault s = record {
+  rest = s.rest ++ q;
+  whole = more-whole (spelled magic) p s.rest q ms s.whole;
+  each = s.each;
+  faulty = subst (λ at. StopsAt magic at (s.rest ++ q) fault) (more-offset (spelled magic) p s.rest q ms s.whole offset) (stops-stay magic (later offset (length p - length s.rest)) s.rest q fault s.faulty);
+}
 
 -- ---- out of frames
 

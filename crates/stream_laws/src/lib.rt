@@ -92,6 +92,16 @@ pub fn streams_have_one_reading()
         → Stop magic offset bytes ms fault → Stop magic offset bytes ns other → (ms ≡ ns) × (fault ≡ other) }
 {}
 
+/// What is said of a part as messages, and then of its rest with what follows, is said of the whole. It does nothing when
+/// it runs: its contract is the theorem.
+pub fn streams_are_read_as_one()
+    ensures stream { (magic p q : List ℕ) (ms ns : List Message) (rest left : List ℕ) → Stream magic p ms rest → Stream magic (rest ++ q) ns left
+        → Stream magic (p ++ q) (ms ++ ns) left }
+    ensures stop { (magic : List ℕ) (offset : ℕ) (p q : List ℕ) (ms ns : List Message) (rest : List ℕ) (fault : StreamFault) → Stream magic p ms rest
+        → Stop magic (later offset (length p - length rest)) (rest ++ q) ns fault → Stop magic offset (p ++ q) (ms ++ ns) fault }
+    ensures stopped { (magic : List ℕ) (offset : ℕ) (p q : List ℕ) (ms : List Message) (fault : StreamFault) → Stop magic offset p ms fault → Stop magic offset (p ++ q) ms fault }
+{}
+
 /// Frames whose payloads are all read are the stream of these messages, and a fault of a frame behind them is the
 /// stream's. The first fault of a payload ends the stream before it, whatever follows. It does nothing when it runs: its
 /// contract is the theorem.

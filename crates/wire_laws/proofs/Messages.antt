@@ -1,12 +1,12 @@
 -- Each message is read back from its frame.
-use Rattle.std.proofs.Common.{◌≡◌, ℕ, ◌+◌, ◌^◌, ◌<◌, ◌≤◌, ◌==◌, ◌&&◌, Bool, true, not, is_some, List, [], ◌∷◌, ◌++◌, Option, Some, None, Result, Ok, length, nat_lt, nat_le, flat_map, refl, sym, ap, ◌∙◌, append_assoc, append-nil, lit<}
+use Rattle.std.proofs.Common.{◌≡◌, ℕ, ◌+◌, ◌^◌, ◌<◌, ◌≤◌, ◌&&◌, Bool, true, not, is_some, List, [], ◌∷◌, ◌++◌, Option, Some, None, Result, Ok, length, nat_lt, nat_le, flat_map, refl, sym, ap, ◌∙◌, append_assoc, append-nil, lit<}
 use Rattle.std.specs.List.{list_all}
 use Rattle.std.specs.Int.{w16, w32, w64, to_le_bytes}
-use Rattle.std.proofs.lemmas.Bool.{ltb-true, leb-true, eqb-true}
-use Rattle.id_rules.specs.Bytes.{are_bytes, is_tx_length, are_bytes_of, fits_signed, is_optional_byte}
+use Rattle.std.proofs.lemmas.Bool.{ltb-true, leb-true}
+use Rattle.id_rules.specs.Bytes.{is_tx_length}
 use Rattle.wire_rules.specs.Commands.{word_of, command_of, is_command, name_at}
 use Rattle.wire_rules.specs.Layout.{compact_size, counted, diff_payload, entry_bytes, flag_byte, frame_of, inventory, named, optional_byte, signed_bytes, version_payload}
-use Rattle.wire_rules.specs.Limits.{IsMessage, in_range, is_entry, version_in_range, within_limits}
+use Rattle.wire_rules.specs.Limits.{IsMessage, in_range, is_entry, within_limits}
 use Rattle.wire_rules.specs.Reading.{diff_in, ended, entry_at, inventory_in, message_by, message_of, named_in, number_at, number_in, request_in, salt_in, sketch_in, tx_in, version_in, with_command}
 use Rattle.wire_rules.specs.declared.faults.PayloadFault.{PayloadFault}
 use Rattle.wire_rules.specs.declared.limits.TheConstants.{LIST_LIMIT, AGENT_LIMIT, PAYLOAD_LIMIT}
@@ -16,7 +16,7 @@ use Rattle.wire_rules.specs.declared.message.Message.TheVariants as message
 use Rattle.wire_rules.specs.declared.message.VersionMsg.{VersionMsg}
 use Rattle.wire_rules.specs.declared.name.Name.{Name}
 use Rattle.wire_rules.specs.declared.name.Name.TheVariants as name
-use Rattle.wire_laws.proofs.Parts.{both_hold}
+use Rattle.wire_laws.proofs.Parts.{VersionRanges, both_hold, of_length, version_ranges}
 use Rattle.wire_laws.proofs.Readers.{then_so, bytes_at-front, number_at-16, number_at-32, number_at-64, signed_at-32, signed_at-64, counted_at-front, counted_bytes-front, short-front, entry-front, flag-front, optional-front}
 
 -- each command that is known is found under its name
@@ -84,16 +84,6 @@ tx-says (b ∷ rest) h = refl
 in_order : (r s n c h y : List ℕ) → r ++ s ++ n ++ c ++ h ++ y ≡ r ++ (s ++ (n ++ (c ++ (h ++ y))))
 in_order r s n c h y = simp append_assoc
 
--- the ranges of a version's fields
-record VersionRanges (v : VersionMsg) : Type 0 where
-  version : fits_signed 31 v.version ≡ true
-  services : v.services < 2 ^ 64
-  time : fits_signed 63 v.time ≡ true
-  receiver : length v.receiver ≡ 26
-  sender : length v.sender ≡ 26
-  nonce : v.nonce < 2 ^ 64
-  height : fits_signed 31 v.height ≡ true
-
 version-says : (v : VersionMsg) → length v.agent ≤ AGENT_LIMIT → VersionRanges v → version_in (version_payload v) ≡ Ok (message.Version v)
 unfolding version_in ended
 version-says v within ranges =
@@ -107,35 +97,14 @@ version-says v within ranges =
     ap (λ rest. version_in (signed_bytes w32 v.version ++ (to_le_bytes w64 v.services ++ (signed_bytes w64 v.time ++ rest))))
     (in_order v.receiver v.sender (to_le_bytes w64 v.nonce) (counted v.agent) height relay)
     ∙ then_so _ _ _ _ (signed_at-32 0 v.version (to_le_bytes w64 v.services ++ (signed_bytes w64 v.time ++ from_receiver)) ranges.version)
-    (then_so _ _ _ _ (number_at-64 4 v.services (signed_bytes w64 v.time ++ from_receiver) ranges.services)
+    (then_so _ _ _ _ (number_at-64 4 v.services (signed_bytes w64 v.time ++ from_receiver) (ltb-true v.services (2 ^ 64) ranges.services))
     (then_so _ _ _ _ (signed_at-64 12 v.time from_receiver ranges.time)
-    (then_so _ _ _ _ (bytes_at-front 26 20 v.receiver (v.sender ++ from_nonce) ranges.receiver)
-    (then_so _ _ _ _ (bytes_at-front 26 46 v.sender from_nonce ranges.sender)
-    (then_so _ _ _ _ (number_at-64 72 v.nonce from_agent ranges.nonce)
+    (then_so _ _ _ _ (bytes_at-front 26 20 v.receiver (v.sender ++ from_nonce) (of_length 26 v.receiver ranges.receiver))
+    (then_so _ _ _ _ (bytes_at-front 26 46 v.sender from_nonce (of_length 26 v.sender ranges.sender))
+    (then_so _ _ _ _ (number_at-64 72 v.nonce from_agent (ltb-true v.nonce (2 ^ 64) ranges.nonce))
     (then_so _ _ _ _ agent.1
     (then_so _ _ _ _ (signed_at-32 agent.0 v.height relay ranges.height)
     (then_so _ _ _ _ last.1 refl))))))))
-
--- the ranges of a version, out of their one test
-ranges_of : (v : VersionMsg) → version_in_range v ≡ true → VersionRanges v
-ranges_of v h =
-    let with_height = both_hold _ (is_optional_byte v.relay) h in
-    let with_agent = both_hold _ (fits_signed 31 v.height) with_height.0 in
-    let with_nonce = both_hold _ (are_bytes v.agent) with_agent.0 in
-    let with_sender = both_hold _ (nat_lt v.nonce (2 ^ 64)) with_nonce.0 in
-    let with_receiver = both_hold _ (are_bytes_of 26 v.sender) with_sender.0 in
-    let with_time = both_hold _ (are_bytes_of 26 v.receiver) with_receiver.0 in
-    let with_services = both_hold _ (fits_signed 63 v.time) with_time.0 in
-    let first = both_hold (fits_signed 31 v.version) (nat_lt v.services (2 ^ 64)) with_services.0 in
-    record {
-      version = first.0;
-      services = ltb-true v.services (2 ^ 64) first.1;
-      time = with_services.1;
-      receiver = eqb-true (length v.receiver) 26 (both_hold (length v.receiver == 26) (are_bytes v.receiver) with_time.1).0;
-      sender = eqb-true (length v.sender) 26 (both_hold (length v.sender == 26) (are_bytes v.sender) with_receiver.1).0;
-      nonce = ltb-true v.nonce (2 ^ 64) with_sender.1;
-      height = with_agent.1;
-    }
 
 -- another command is no name's
 none_of : (o : Option Name) → not (is_some o) ≡ true → o ≡ None
@@ -148,7 +117,7 @@ other-says command payload h = ap (λ o. message_by o (record { command = comman
 -- by the two tests of what may be sent
 read_back : (m : Message) → within_limits m ≡ true → in_range m ≡ true → message_of (frame_of m) ≡ Ok m
 unfolding frame_of within_limits in_range named_in ended
-read_back (message.Version v) w r = named-says name.Version (version_payload v) (message.Version v) (version-says v (leb-true (length v.agent) AGENT_LIMIT w) (ranges_of v r))
+read_back (message.Version v) w r = named-says name.Version (version_payload v) (message.Version v) (version-says v (leb-true (length v.agent) AGENT_LIMIT w) (version_ranges v r))
 read_back message.Verack w r = named-says name.Verack [] message.Verack refl
 read_back message.WtxidRelay w r = named-says name.WtxidRelay [] message.WtxidRelay refl
 read_back (message.SendTxRcncl version salt) w r =

@@ -2,18 +2,18 @@
 use Rattle.std.proofs.Common.{◌≡◌, ℕ, suc, ◌+◌, ◌^◌, ◌<◌, ◌≤◌, Bool, true, false, List, [], ◌∷◌, ◌++◌, ℤ, pos, negsuc, FitsSigned, if◌then◌else◌, ◌==◌, Option, Some, None, Result, Ok, length, nat_lt, refl, sym, ap, subst, ◌∙◌, arith, append_assoc, flat_map, lit<}
 use Rattle.std.specs.List.{list_all}
 use Rattle.std.specs.Int.{w8, w16, w32, w64, to_le_bytes, from_le_bytes, cast_signed, cast_unsigned}
-use Rattle.std.proofs.lemmas.Bool.{lt-leb, leb-false, ltb-true, eqb-true, ne_eqb}
+use Rattle.std.proofs.lemmas.Bool.{lt-leb, leb-false, ltb-true, ne_eqb}
 use Rattle.std.proofs.lemmas.Int.{to_z-of_z}
 use Rattle.std.proofs.lemmas.List.{length-append}
 use Rattle.std.proofs.lemmas.Nat.{from_le_bytes-to_le_bytes_2, from_le_bytes-to_le_bytes_4, from_le_bytes-to_le_bytes_8}
+use Rattle.id_rules.specs.Bytes.{are_bytes_of, fits_signed}
 use Rattle.wire_rules.specs.Reading.{Spot, Cursor, Read, ◌>>=◌, bytes_at, number_at, signed_at, count_at, behind_mark, wrong, many_at, counted_at, counted_bytes_at, entry_at, flag_at, optional_at}
 use Rattle.wire_rules.specs.Layout.{compact_size, counted, entry_bytes, flag_byte, optional_byte, signed_bytes}
 use Rattle.wire_rules.specs.Limits.{is_entry}
-use Rattle.id_rules.specs.Bytes.{are_bytes, are_bytes_of, fits_signed}
 use Rattle.wire_rules.specs.declared.limits.TheConstants.{LIST_LIMIT}
 use Rattle.wire_rules.specs.declared.message.InvEntry.{InvEntry}
 use Rattle.wire_rules.specs.declared.faults.PayloadKind.TheVariants as fault
-use Rattle.wire_laws.proofs.Parts.{take_front, drop_front, both_hold, le_holds}
+use Rattle.wire_laws.proofs.Parts.{take_front, drop_front, both_hold, le_holds, of_length}
 
 -- a cursor
 abbrev pub cursor : ℕ → List ℕ → Cursor
@@ -170,7 +170,7 @@ pub entry-front : (e : InvEntry) (at : ℕ) (ys : List ℕ) → is_entry e ≡ t
 unfolding entry_at
 entry-front e at ys h =
     let tests = both_hold (nat_lt e.kind (2 ^ 32)) (are_bytes_of 32 e.id.0) h in
-    let size = eqb-true (length e.id.0) 32 (both_hold (length e.id.0 == 32) (are_bytes e.id.0) tests.1).0 in (
+    let size = of_length 32 e.id.0 tests.1 in (
       at + 4 + 32,
       then_so _ _ _ _ (number_at-32 at e.kind (e.id.0 ++ ys) (ltb-true e.kind (2 ^ 32) tests.0)) (then_so _ _ _ _ (bytes_at-front 32 (at + 4) e.id.0 ys size) refl),
     )

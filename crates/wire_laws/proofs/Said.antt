@@ -5,9 +5,9 @@ use Rattle.std.specs.Cmp.Lexicographic.{same_text}
 use Rattle.std.specs.Int.{w16, w32, w64, to_le_bytes}
 use Rattle.id_rules.specs.Bytes.{are_bytes}
 use Rattle.wire_rules.specs.Commands.{command_of, is_command, name_at, names}
-use Rattle.wire_rules.specs.Layout.{compact_size, counted, diff_payload, entry_bytes, flag_byte, frame_of, inventory, named, optional_byte, signed_bytes, version_payload}
+use Rattle.wire_rules.specs.Layout.{compact_size, counted, entry_bytes, flag_byte, frame_of, inventory, named, optional_byte, signed_bytes, version_payload}
 use Rattle.wire_rules.specs.Limits.{IsFrame, in_range, is_entry, within_limits}
-use Rattle.wire_rules.specs.Reading.{Spot, Cursor, ◌>>=◌, bytes_at, counted_at, counted_bytes_at, diff_in, ended, entry_at, flag_at, inventory_in, message_by, message_of, named_in, number_at, number_in, optional_at, request_in, salt_in, signed_at, sketch_in, start, tx_in, version_in, with_command}
+use Rattle.wire_rules.specs.Reading.{Spot, Cursor, Read, ◌>>=◌, bytes_at, counted_at, counted_bytes_at, diff_in, ended, entry_at, flag_at, inventory_in, message_by, message_of, named_in, number_at, number_in, optional_at, request_in, salt_in, signed_at, sketch_in, start, tx_in, version_in, with_command}
 use Rattle.wire_rules.specs.declared.faults.PayloadFault.{PayloadFault}
 use Rattle.wire_rules.specs.declared.frame.Frame.{Frame}
 use Rattle.wire_rules.specs.declared.limits.TheConstants.{LIST_LIMIT, AGENT_LIMIT, PAYLOAD_LIMIT}
@@ -18,9 +18,9 @@ use Rattle.wire_rules.specs.declared.message.VersionMsg.{VersionMsg}
 use Rattle.wire_rules.specs.declared.name.Name.{Name}
 use Rattle.wire_rules.specs.declared.name.Name.TheVariants as name
 use Rattle.wire_laws.specs.Readings.{IsSaid}
-use Rattle.wire_laws.proofs.Parts.{both_so, le_holds}
-use Rattle.wire_laws.proofs.Taken.{Took, both_said, bytes_split, from_ok, number_at-took_2, number_at-took_4, number_at-took_8}
-use Rattle.wire_laws.proofs.TakenLists.{took_both, counted_bytes-took, counted_at-took, ended-took, entry-took, field-took, flag-took, optional-took, short-took, signed_at-took_4, signed_at-took_8}
+use Rattle.wire_laws.proofs.Parts.{both_hold, both_so, bytes_split, le_holds}
+use Rattle.wire_laws.proofs.Taken.{Took, both_said, from_ok, number-tested, number_at-took_2, number_at-took_8}
+use Rattle.wire_laws.proofs.TakenLists.{took_both, bytes-took, counted_bytes-took, counted_at-took, ended-took, entry-took, field-took, flag-took, optional-took, short-took, signed_at-took_4, signed_at-took_8}
 
 -- a payload says a message that may be sent, whose frame has this payload
 record Says (n : Name) (payload : List ℕ) (m : Message) : Type 0 where
@@ -39,73 +39,83 @@ bare : (n : Name) (payload : List ℕ) (made m : Message) → are_bytes payload 
     → named n [] ≡ frame_of made → within_limits made ≡ true → in_range made ≡ true → Says n payload m
 bare n payload made m bytes e frame within ranged = at_end n payload [] made m (start payload) (record { whole = refl; front = refl; left = bytes }) e frame within ranged
 
+-- ---- a payload of one field, and of two
+
+-- what a reader takes spells what it says, which passes a test
+abbrev IsReader : {A : Type 0} → (Cursor → Read A) → (A → List ℕ) → (A → Bool) → Type 0
+IsReader {A} item spell test = (c : Cursor) (r : A × Cursor) → are_bytes c.rest ≡ true → item c ≡ Ok r → Took c (spell r.0) r.1 × (test r.0 ≡ true)
+
+-- a message may be sent
+record IsSent (m : Message) : Type 0 where
+  within : within_limits m ≡ true
+  ranged : in_range m ≡ true
+
+one-said : {A : Type 0} (item : Cursor → Read A) (spell : A → List ℕ) (test : A → Bool) → IsReader item spell test → (n : Name) (made : A → Message) → ((x : A) → named n (spell x) ≡ frame_of (made x))
+    → ((x : A) → test x ≡ true → IsSent (made x)) → (payload : List ℕ) (m : Message) → are_bytes payload ≡ true → (item (start payload) >>= (λ x. ended (made x.0) x.1)) ≡ Ok m → Says n payload m
+one-said item spell test reader n made frame sent payload m bytes e =
+    let first = both_said (item (start payload)) (λ x. ended (made x.0) x.1) m e in
+    let x = first.0 in
+    let a = reader (start payload) x bytes first.1 in
+    let may = sent x.0 a.1 in
+    at_end n payload (spell x.0) (made x.0) m x.1 a.0 first.2 (frame x.0) may.within may.ranged
+
+two-said : {A B : Type 0} (item : Cursor → Read A) (spell : A → List ℕ) (test : A → Bool) → IsReader item spell test → (next : Cursor → Read B) (tell : B → List ℕ) (pass : B → Bool) → IsReader next tell pass
+    → (n : Name) (made : A → B → Message) → ((x : A) (y : B) → named n (spell x ++ tell y) ≡ frame_of (made x y)) → ((x : A) (y : B) → test x ≡ true → pass y ≡ true → IsSent (made x y))
+    → (payload : List ℕ) (m : Message) → are_bytes payload ≡ true → (item (start payload) >>= (λ x. next x.1 >>= (λ y. ended (made x.0 y.0) y.1))) ≡ Ok m → Says n payload m
+two-said item spell test reader next tell pass more n made frame sent payload m bytes e =
+    let first = both_said (item (start payload)) (λ x. next x.1 >>= (λ y. ended (made x.0 y.0) y.1)) m e in
+    let x = first.0 in
+    let a = reader (start payload) x bytes first.1 in
+    let second = both_said (next x.1) (λ y. ended (made x.0 y.0) y.1) m first.2 in
+    let y = second.0 in
+    let b = more x.1 y a.0.left second.1 in
+    let may = sent x.0 y.0 a.1 b.1 in
+    at_end n payload (spell x.0 ++ tell y.0) (made x.0 y.0) m y.1 (took_both (start payload) x.1 y.1 (spell x.0) (tell y.0) a.0 b.0) second.2 (frame x.0 y.0) may.within may.ranged
+
+reads_16 : IsReader (number_at w16) (to_le_bytes w16) (λ k. nat_lt k (2 ^ 16))
+reads_16 c r bytes e = number-tested (number_at-took_2 c r bytes e)
+
+reads_64 : IsReader (number_at w64) (to_le_bytes w64) (λ k. nat_lt k (2 ^ 64))
+reads_64 c r bytes e = number-tested (number_at-took_8 c r bytes e)
+
+reads_flag : IsReader flag_at (λ b. flag_byte b ∷ []) (λ b. true)
+reads_flag c r bytes e = (flag-took c r bytes e, refl)
+
 salt-said : (payload : List ℕ) (m : Message) → are_bytes payload ≡ true → salt_in payload ≡ Ok m → Says name.SendTxRcncl payload m
 unfolding salt_in frame_of within_limits in_range
-salt-said payload m bytes e =
-    let first = both_said (number_at w32 (start payload)) (λ version. number_at w64 version.1 >>= (λ salt. ended (message.SendTxRcncl version.0 salt.0) salt.1)) m e in
-    let version = first.0 in
-    let a = number_at-took_4 (start payload) version bytes first.1 in
-    let second = both_said (number_at w64 version.1) (λ salt. ended (message.SendTxRcncl version.0 salt.0) salt.1) m first.2 in
-    let salt = second.0 in
-    let b = number_at-took_8 version.1 salt a.took.left second.1 in
-    at_end name.SendTxRcncl payload (to_le_bytes w32 version.0 ++ to_le_bytes w64 salt.0) (message.SendTxRcncl version.0 salt.0) m salt.1
-    (took_both (start payload) version.1 salt.1 (to_le_bytes w32 version.0) (to_le_bytes w64 salt.0) a.took b.took) second.2 refl refl
-    (both_so (nat_lt version.0 (2 ^ 32)) (nat_lt salt.0 (2 ^ 64)) (le_holds (suc version.0) (2 ^ 32) a.below) (le_holds (suc salt.0) (2 ^ 64) b.below))
+salt-said =
+    two-said (number_at w32) (to_le_bytes w32) (λ k. nat_lt k (2 ^ 32)) short-took (number_at w64) (to_le_bytes w64) (λ k. nat_lt k (2 ^ 64)) reads_64 name.SendTxRcncl message.SendTxRcncl
+    (λ version salt. refl) (λ version salt a b. record { within = refl; ranged = both_so (nat_lt version (2 ^ 32)) (nat_lt salt (2 ^ 64)) a b })
 
 request-said : (payload : List ℕ) (m : Message) → are_bytes payload ≡ true → request_in payload ≡ Ok m → Says name.ReqRecon payload m
 unfolding request_in frame_of within_limits in_range
-request-said payload m bytes e =
-    let first = both_said (number_at w16 (start payload)) (λ size. number_at w16 size.1 >>= (λ q. ended (message.ReqRecon size.0 q.0) q.1)) m e in
-    let size = first.0 in
-    let a = number_at-took_2 (start payload) size bytes first.1 in
-    let second = both_said (number_at w16 size.1) (λ q. ended (message.ReqRecon size.0 q.0) q.1) m first.2 in
-    let q = second.0 in
-    let b = number_at-took_2 size.1 q a.took.left second.1 in
-    at_end name.ReqRecon payload (to_le_bytes w16 size.0 ++ to_le_bytes w16 q.0) (message.ReqRecon size.0 q.0) m q.1
-    (took_both (start payload) size.1 q.1 (to_le_bytes w16 size.0) (to_le_bytes w16 q.0) a.took b.took) second.2 refl refl
-    (both_so (nat_lt size.0 (2 ^ 16)) (nat_lt q.0 (2 ^ 16)) (le_holds (suc size.0) (2 ^ 16) a.below) (le_holds (suc q.0) (2 ^ 16) b.below))
-
-sketch-said : (payload : List ℕ) (m : Message) → are_bytes payload ≡ true → sketch_in payload ≡ Ok m → Says name.Sketch payload m
-unfolding sketch_in frame_of within_limits in_range
-sketch-said payload m bytes e =
-    let first = both_said (counted_bytes_at LIST_LIMIT (start payload)) (λ xs. ended (message.Sketch xs.0) xs.1) m e in
-    let xs = first.0 in
-    let a = counted_bytes-took LIST_LIMIT (start payload) xs (lit< tt) bytes first.1 in
-    at_end name.Sketch payload (counted xs.0) (message.Sketch xs.0) m xs.1 a.0 first.2 refl (le_holds (length xs.0) LIST_LIMIT a.1) (bytes_behind xs.0 a.0.front)
-  where
-    bytes_behind : (xs : List ℕ) → are_bytes (counted xs) ≡ true → are_bytes xs ≡ true
-    bytes_behind xs h = (bytes_split (compact_size (length xs)) xs h).1
-
-number-said : (n : Name) (made : ℕ → Message) (payload : List ℕ) (m : Message) → ((k : ℕ) → named n (to_le_bytes w64 k) ≡ frame_of (made k)) → ((k : ℕ) → within_limits (made k) ≡ true) → ((k : ℕ) → in_range (made k) ≡ nat_lt k (2 ^ 64))
-    → are_bytes payload ≡ true → number_in made payload ≡ Ok m → Says n payload m
-unfolding number_in
-number-said n made payload m frame within ranged bytes e =
-    let first = both_said (number_at w64 (start payload)) (λ k. ended (made k.0) k.1) m e in
-    let k = first.0 in
-    let a = number_at-took_8 (start payload) k bytes first.1 in
-    at_end n payload (to_le_bytes w64 k.0) (made k.0) m k.1 a.took first.2 (frame k.0) (within k.0) (ranged k.0 ∙ le_holds (suc k.0) (2 ^ 64) a.below)
-
-inventory-said : (n : Name) (made : List InvEntry → Message) (payload : List ℕ) (m : Message) → ((es : List InvEntry) → named n (inventory es) ≡ frame_of (made es)) → ((es : List InvEntry) → within_limits (made es) ≡ nat_le (length es) LIST_LIMIT) → ((es : List InvEntry) → in_range (made es) ≡ list_all is_entry es)
-    → are_bytes payload ≡ true → inventory_in made payload ≡ Ok m → Says n payload m
-unfolding inventory_in
-inventory-said n made payload m frame within ranged bytes e =
-    let first = both_said (counted_at entry_at (start payload)) (λ es. ended (made es.0) es.1) m e in
-    let es = first.0 in
-    let a = counted_at-took entry_at entry_bytes is_entry entry-took (start payload) es bytes first.1 in
-    at_end n payload (inventory es.0) (made es.0) m es.1 a.took first.2 (frame es.0) (within es.0 ∙ le_holds (length es.0) LIST_LIMIT a.within) (ranged es.0 ∙ a.tests)
+request-said =
+    two-said (number_at w16) (to_le_bytes w16) (λ k. nat_lt k (2 ^ 16)) reads_16 (number_at w16) (to_le_bytes w16) (λ k. nat_lt k (2 ^ 16)) reads_16 name.ReqRecon message.ReqRecon
+    (λ size q. refl) (λ size q a b. record { within = refl; ranged = both_so (nat_lt size (2 ^ 16)) (nat_lt q (2 ^ 16)) a b })
 
 diff-said : (payload : List ℕ) (m : Message) → are_bytes payload ≡ true → diff_in payload ≡ Ok m → Says name.ReconcilDiff payload m
 unfolding diff_in frame_of within_limits in_range
-diff-said payload m bytes e =
-    let first = both_said (flag_at (start payload)) (λ success. counted_at (number_at w32) success.1 >>= (λ asks. ended (message.ReconcilDiff success.0 asks.0) asks.1)) m e in
-    let success = first.0 in
-    let a = flag-took (start payload) success bytes first.1 in
-    let second = both_said (counted_at (number_at w32) success.1) (λ asks. ended (message.ReconcilDiff success.0 asks.0) asks.1) m first.2 in
-    let asks = second.0 in
-    let b = counted_at-took (number_at w32) (to_le_bytes w32) (λ n. nat_lt n (2 ^ 32)) short-took success.1 asks a.left second.1 in
-    at_end name.ReconcilDiff payload (diff_payload success.0 asks.0) (message.ReconcilDiff success.0 asks.0) m asks.1
-    (took_both (start payload) success.1 asks.1 (flag_byte success.0 ∷ []) (compact_size (length asks.0) ++ flat_map (to_le_bytes w32) asks.0) a b.took) second.2 refl
-    (le_holds (length asks.0) LIST_LIMIT b.within) b.tests
+diff-said =
+    two-said flag_at (λ b. flag_byte b ∷ []) (λ b. true) reads_flag (counted_at (number_at w32)) (λ asks. compact_size (length asks) ++ flat_map (to_le_bytes w32) asks)
+    (λ asks. nat_le (length asks) LIST_LIMIT && list_all (λ k. nat_lt k (2 ^ 32)) asks) (counted_at-took (number_at w32) (to_le_bytes w32) (λ k. nat_lt k (2 ^ 32)) short-took) name.ReconcilDiff message.ReconcilDiff
+    (λ success asks. refl) (λ success asks a b. let tests = both_hold (nat_le (length asks) LIST_LIMIT) (list_all (λ k. nat_lt k (2 ^ 32)) asks) b in record { within = tests.0; ranged = tests.1 })
+
+sketch-said : (payload : List ℕ) (m : Message) → are_bytes payload ≡ true → sketch_in payload ≡ Ok m → Says name.Sketch payload m
+unfolding sketch_in frame_of within_limits in_range
+sketch-said =
+    one-said (counted_bytes_at LIST_LIMIT) counted (λ xs. nat_le (length xs) LIST_LIMIT && are_bytes xs) (λ c r bytes e. bytes-took LIST_LIMIT c r (lit< tt) bytes e) name.Sketch message.Sketch
+    (λ xs. refl) (λ xs h. let tests = both_hold (nat_le (length xs) LIST_LIMIT) (are_bytes xs) h in record { within = tests.0; ranged = tests.1 })
+
+number-said : (n : Name) (made : ℕ → Message) → ((k : ℕ) → named n (to_le_bytes w64 k) ≡ frame_of (made k)) → ((k : ℕ) → nat_lt k (2 ^ 64) ≡ true → IsSent (made k))
+    → (payload : List ℕ) (m : Message) → are_bytes payload ≡ true → number_in made payload ≡ Ok m → Says n payload m
+unfolding number_in
+number-said n made = one-said (number_at w64) (to_le_bytes w64) (λ k. nat_lt k (2 ^ 64)) reads_64 n made
+
+inventory-said : (n : Name) (made : List InvEntry → Message) → ((es : List InvEntry) → named n (inventory es) ≡ frame_of (made es))
+    → ((es : List InvEntry) → (nat_le (length es) LIST_LIMIT && list_all is_entry es) ≡ true → IsSent (made es))
+    → (payload : List ℕ) (m : Message) → are_bytes payload ≡ true → inventory_in made payload ≡ Ok m → Says n payload m
+unfolding inventory_in
+inventory-said n made = one-said (counted_at entry_at) inventory (λ es. nat_le (length es) LIST_LIMIT && list_all is_entry es) (counted_at-took entry_at entry_bytes is_entry entry-took) n made
 
 -- ---- a version, field after field
 
@@ -188,12 +198,12 @@ named-said name.ReqRecon payload m bytes low e = request-said payload m bytes e
 named-said name.Sketch payload m bytes low e = sketch-said payload m bytes e
 named-said name.ReqSketchExt payload m bytes low e = bare name.ReqSketchExt payload message.ReqSketchExt m bytes e refl refl refl
 named-said name.ReconcilDiff payload m bytes low e = diff-said payload m bytes e
-named-said name.Inv payload m bytes low e = inventory-said name.Inv message.Inv payload m (λ es. refl) (λ es. refl) (λ es. refl) bytes e
-named-said name.GetData payload m bytes low e = inventory-said name.GetData message.GetData payload m (λ es. refl) (λ es. refl) (λ es. refl) bytes e
-named-said name.NotFound payload m bytes low e = inventory-said name.NotFound message.NotFound payload m (λ es. refl) (λ es. refl) (λ es. refl) bytes e
+named-said name.Inv payload m bytes low e = inventory-said name.Inv message.Inv (λ es. refl) (λ es h. let tests = both_hold (nat_le (length es) LIST_LIMIT) (list_all is_entry es) h in record { within = tests.0; ranged = tests.1 }) payload m bytes e
+named-said name.GetData payload m bytes low e = inventory-said name.GetData message.GetData (λ es. refl) (λ es h. let tests = both_hold (nat_le (length es) LIST_LIMIT) (list_all is_entry es) h in record { within = tests.0; ranged = tests.1 }) payload m bytes e
+named-said name.NotFound payload m bytes low e = inventory-said name.NotFound message.NotFound (λ es. refl) (λ es h. let tests = both_hold (nat_le (length es) LIST_LIMIT) (list_all is_entry es) h in record { within = tests.0; ranged = tests.1 }) payload m bytes e
 named-said name.Tx payload m bytes low e = tx-said payload m bytes low e
-named-said name.Ping payload m bytes low e = number-said name.Ping message.Ping payload m (λ k. refl) (λ k. refl) (λ k. refl) bytes e
-named-said name.Pong payload m bytes low e = number-said name.Pong message.Pong payload m (λ k. refl) (λ k. refl) (λ k. refl) bytes e
+named-said name.Ping payload m bytes low e = number-said name.Ping message.Ping (λ k. refl) (λ k h. record { within = refl; ranged = h }) payload m bytes e
+named-said name.Pong payload m bytes low e = number-said name.Pong message.Pong (λ k. refl) (λ k h. record { within = refl; ranged = h }) payload m bytes e
 
 -- by whether the first name passes the test
 found_by : (b : Bool) (test : Name → Bool) (x n : Name) (ns : List Name) → test x ≡ b → (find test ns ≡ Some n → test n ≡ true) → cond b (Some x) (find test ns) ≡ Some n → test n ≡ true

@@ -2,12 +2,12 @@
 use Rattle.std.proofs.Common.{◌≡◌, ℕ, zero, suc, ◌+◌, ◌*◌, ◌/◌, ◌%◌, ◌^◌, ◌<◌, ◌≤◌, ◌==◌, ◌&&◌, Bool, true, false, not, is_some, List, [], ◌∷◌, ◌++◌, Option, Some, None, length, nat_lt, nat_le, flat_map, refl, sym, subst, arith, mod-lt, lit<, lit≤, if◌then◌else◌}
 use Rattle.std.specs.List.{list_all}
 use Rattle.std.specs.Int.{Width, w16, w32, w64, to_le_bytes, bytes_low_first, byte_at, byte_len, cast_unsigned}
-use Rattle.std.proofs.lemmas.Bool.{ltb-true, leb-true, eqb-true}
+use Rattle.std.proofs.lemmas.Bool.{ltb-true, leb-true}
 use Rattle.std.proofs.lemmas.List.{length-append}
 use Rattle.id_rules.specs.Bytes.{are_bytes, are_bytes_of, fits_signed, is_optional_byte}
 use Rattle.wire_rules.specs.Commands.{word_of, is_filled, command_of, is_command, name_at}
 use Rattle.wire_rules.specs.Layout.{compact_size, counted, diff_payload, entry_bytes, flag_byte, frame_of, inventory, named, optional_byte, signed_bytes, version_payload}
-use Rattle.wire_rules.specs.Limits.{IsFrame, IsMessage, in_range, is_entry, version_in_range, within_limits}
+use Rattle.wire_rules.specs.Limits.{IsFrame, IsMessage, in_range, is_entry, within_limits}
 use Rattle.wire_rules.specs.declared.limits.TheConstants.{LIST_LIMIT, AGENT_LIMIT, PAYLOAD_LIMIT}
 use Rattle.wire_rules.specs.declared.message.InvEntry.{InvEntry}
 use Rattle.wire_rules.specs.declared.message.Message.{Message}
@@ -15,17 +15,12 @@ use Rattle.wire_rules.specs.declared.message.Message.TheVariants as message
 use Rattle.wire_rules.specs.declared.message.VersionMsg.{VersionMsg}
 use Rattle.wire_rules.specs.declared.name.Name.{Name}
 use Rattle.wire_rules.specs.declared.name.Name.TheVariants as name
-use Rattle.wire_laws.proofs.Parts.{both_hold, both_so, le_holds}
+use Rattle.wire_laws.proofs.Parts.{VersionRanges, both_hold, both_so, bytes_join, le_holds, of_length, version_ranges}
 use Rattle.wire_laws.proofs.Readers.{two_bytes}
 
 -- ---- bytes
 
-are_bytes-append : (xs ys : List ℕ) → are_bytes xs ≡ true → are_bytes ys ≡ true → are_bytes (xs ++ ys) ≡ true
-are_bytes-append [] ys hx hy = hy
-are_bytes-append (x ∷ xs) ys hx hy =
-    let tests = both_hold (nat_lt x (2 ^ 8)) (are_bytes xs) hx in both_so (nat_lt x (2 ^ 8)) (are_bytes (xs ++ ys)) tests.0 (are_bytes-append xs ys tests.1 hy)
-
-byte_small : (i n : ℕ) → nat_lt (byte_at i n) (2 ^ 8) ≡ true
+pub byte_small : (i n : ℕ) → nat_lt (byte_at i n) (2 ^ 8) ≡ true
 byte_small zero n = le_holds (suc (n % 256)) 256 (mod-lt n (lit< tt))
 byte_small (suc i) n = le_holds (suc (n / 256 ^ suc i % 256)) 256 (mod-lt (n / 256 ^ suc i) (lit< tt))
 
@@ -42,7 +37,7 @@ module _ {A : Type 0} (spell : A → List ℕ) (test : A → Bool) (bytes : (x :
   items_bytes : (xs : List A) → list_all test xs ≡ true → are_bytes (flat_map spell xs) ≡ true
   items_bytes [] h = refl
   items_bytes (x ∷ xs) h =
-      let tests = both_hold (test x) (list_all test xs) h in are_bytes-append (spell x) (flat_map spell xs) (bytes x tests.0) (items_bytes xs tests.1)
+      let tests = both_hold (test x) (list_all test xs) h in bytes_join (spell x) (flat_map spell xs) (bytes x tests.0) (items_bytes xs tests.1)
 
   items_length : (xs : List A) → list_all test xs ≡ true → length (flat_map spell xs) ≤ 36 * length xs
   items_length [] h = lit≤ tt
@@ -65,11 +60,11 @@ module _ (e : InvEntry) (h : is_entry e ≡ true) where
   id_test = (both_hold (nat_lt e.kind (2 ^ 32)) (are_bytes_of 32 e.id.0) h).1
 
   one_entry_bytes : are_bytes (entry_bytes e) ≡ true
-  one_entry_bytes = are_bytes-append (to_le_bytes w32 e.kind) e.id.0 (number_bytes w32 e.kind) (both_hold (length e.id.0 == 32) (are_bytes e.id.0) id_test).1
+  one_entry_bytes = bytes_join (to_le_bytes w32 e.kind) e.id.0 (number_bytes w32 e.kind) (both_hold (length e.id.0 == 32) (are_bytes e.id.0) id_test).1
 
   one_entry_length : length (entry_bytes e) ≤ 36
   one_entry_length =
-      let size = eqb-true (length e.id.0) 32 (both_hold (length e.id.0 == 32) (are_bytes e.id.0) id_test).0 in
+      let size = of_length 32 e.id.0 id_test in
       subst (λ n. n ≤ 36) (sym (length-append (to_le_bytes w32 e.kind) e.id.0)) (omega arith)
 
 -- ---- counts
@@ -97,7 +92,7 @@ record Fits (limit : ℕ) (payload : List ℕ) : Type 0 where
 fits-append : (m n : ℕ) (xs ys : List ℕ) → Fits m xs → Fits n ys → Fits (m + n) (xs ++ ys)
 fits-append m n xs ys fx fy = record {
   within = let x = fx.within in let y = fy.within in subst (λ k. k ≤ m + n) (sym (length-append xs ys)) (omega arith);
-  bytes = are_bytes-append xs ys fx.bytes fy.bytes;
+  bytes = bytes_join xs ys fx.bytes fy.bytes;
 }
 
 fits-more : (m n : ℕ) (xs : List ℕ) → m ≤ n → Fits m xs → Fits n xs
@@ -147,25 +142,18 @@ fits-optional (Some b) h = record { within = lit≤ tt; bytes = both_so (nat_lt 
 
 fits-field : (n : ℕ) (xs : List ℕ) → are_bytes_of n xs ≡ true → Fits n xs
 fits-field n xs h =
-    let tests = both_hold (length xs == n) (are_bytes xs) h in
-    record { within = let e = eqb-true (length xs) n tests.0 in omega arith; bytes = tests.1 }
+    record { within = let e = of_length n xs h in omega arith; bytes = (both_hold (length xs == n) (are_bytes xs) h).1 }
 
-fits-version : (v : VersionMsg) → length v.agent ≤ AGENT_LIMIT → version_in_range v ≡ true → Fits PAYLOAD_LIMIT (version_payload v)
-fits-version v within h =
-    let with_height = both_hold _ (is_optional_byte v.relay) h in
-    let with_agent = both_hold _ (fits_signed 31 v.height) with_height.0 in
-    let with_nonce = both_hold _ (are_bytes v.agent) with_agent.0 in
-    let with_sender = both_hold _ (nat_lt v.nonce (2 ^ 64)) with_nonce.0 in
-    let with_receiver = both_hold _ (are_bytes_of 26 v.sender) with_sender.0 in
-    let with_time = both_hold _ (are_bytes_of 26 v.receiver) with_receiver.0 in
+fits-version : (v : VersionMsg) → length v.agent ≤ AGENT_LIMIT → VersionRanges v → Fits PAYLOAD_LIMIT (version_payload v)
+fits-version v within ranges =
     let first = fits-append 4 8 (signed_bytes w32 v.version) (to_le_bytes w64 v.services) (fits-32 (cast_unsigned w32 v.version)) (fits-64 v.services) in
     let time = fits-append 12 8 _ (signed_bytes w64 v.time) first (fits-64 (cast_unsigned w64 v.time)) in
-    let receiver = fits-append 20 26 _ v.receiver time (fits-field 26 v.receiver with_time.1) in
-    let sender = fits-append 46 26 _ v.sender receiver (fits-field 26 v.sender with_receiver.1) in
+    let receiver = fits-append 20 26 _ v.receiver time (fits-field 26 v.receiver ranges.receiver) in
+    let sender = fits-append 46 26 _ v.sender receiver (fits-field 26 v.sender ranges.sender) in
     let nonce = fits-append 72 8 _ (to_le_bytes w64 v.nonce) sender (fits-64 v.nonce) in
-    let agent = fits-append 80 (3 + AGENT_LIMIT) _ (counted v.agent) nonce (fits-counted AGENT_LIMIT v.agent within (lit< tt) with_nonce.1) in
+    let agent = fits-append 80 (3 + AGENT_LIMIT) _ (counted v.agent) nonce (fits-counted AGENT_LIMIT v.agent within (lit< tt) ranges.agent) in
     let height = fits-append (83 + AGENT_LIMIT) 4 _ (signed_bytes w32 v.height) agent (fits-32 (cast_unsigned w32 v.height)) in
-    let relay = fits-append (87 + AGENT_LIMIT) 1 _ (optional_byte v.relay) height (fits-optional v.relay with_height.1) in
+    let relay = fits-append (87 + AGENT_LIMIT) 1 _ (optional_byte v.relay) height (fits-optional v.relay ranges.relay) in
     fits-more (88 + AGENT_LIMIT) PAYLOAD_LIMIT (version_payload v) (lit≤ tt) relay
 
 fits-empty : Fits PAYLOAD_LIMIT []
@@ -196,7 +184,7 @@ frame_with n payload f = record { command = is_command-known n; within = f.withi
 
 frame_by : (m : Message) → within_limits m ≡ true → in_range m ≡ true → IsFrame (frame_of m)
 unfolding frame_of within_limits in_range
-frame_by (message.Version v) w r = frame_with name.Version (version_payload v) (fits-version v (leb-true (length v.agent) AGENT_LIMIT w) r)
+frame_by (message.Version v) w r = frame_with name.Version (version_payload v) (fits-version v (leb-true (length v.agent) AGENT_LIMIT w) (version_ranges v r))
 frame_by message.Verack w r = frame_with name.Verack [] fits-empty
 frame_by message.WtxidRelay w r = frame_with name.WtxidRelay [] fits-empty
 frame_by (message.SendTxRcncl version salt) w r =

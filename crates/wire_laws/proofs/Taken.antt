@@ -1,5 +1,5 @@
 -- What readers of fields have taken: the bytes that they left out are those that spell what they say.
-use Rattle.std.proofs.Common.{◌≡◌, ℕ, zero, suc, ◌+◌, ◌^◌, ◌<◌, ◌&&◌, Bool, true, false, List, [], ◌∷◌, ◌++◌, Result, Ok, Err, length, take, drop, get_or, nat_lt, refl, sym, ap, subst, ◌∙◌, arith, lit<, if◌then◌else◌}
+use Rattle.std.proofs.Common.{◌≡◌, ℕ, zero, suc, ◌+◌, ◌^◌, ◌<◌, Bool, true, false, List, [], ◌∷◌, ◌++◌, Result, Ok, Err, length, take, drop, get_or, nat_lt, refl, sym, subst, arith, lit<, if◌then◌else◌}
 use Rattle.std.specs.Int.{Width, w8, w16, w32, w64, byte_len, to_le_bytes, from_le_bytes}
 use Rattle.std.proofs.lemmas.Bool.{ltb-true, leb-false}
 use Rattle.std.proofs.lemmas.List.{take-append-drop, length-take-le}
@@ -7,7 +7,7 @@ use Rattle.std.proofs.lemmas.Nat.{le_bytes_2, le_bytes_4, le_bytes_8}
 use Rattle.id_rules.specs.Bytes.{are_bytes}
 use Rattle.wire_rules.specs.Reading.{Spot, Cursor, ◌>>=◌, wrong, bytes_at, number_at}
 use Rattle.wire_rules.specs.declared.faults.PayloadKind.TheVariants as fault
-use Rattle.wire_laws.proofs.Parts.{both_hold}
+use Rattle.wire_laws.proofs.Parts.{both_hold, bytes_split, le_holds}
 use Rattle.wire_laws.proofs.Readers.{cursor}
 
 -- where two steps in a row say something, the first does, and the second behind it
@@ -20,13 +20,6 @@ pub record Took (c : Cursor) (xs : List ℕ) (rest : Cursor) : Type 0 where
   pub whole : c.rest ≡ xs ++ rest.rest
   pub front : are_bytes xs ≡ true
   pub left : are_bytes rest.rest ≡ true
-
-pub bytes_split : (xs ys : List ℕ) → are_bytes (xs ++ ys) ≡ true → (are_bytes xs ≡ true) × (are_bytes ys ≡ true)
-bytes_split [] ys h = (refl, h)
-bytes_split (x ∷ xs) ys h =
-    let tests = both_hold (nat_lt x (2 ^ 8)) (are_bytes (xs ++ ys)) h in
-    let parts = bytes_split xs ys tests.1 in
-    (ap (λ b. b && are_bytes xs) tests.0 ∙ parts.0, parts.1)
 
 -- by whether there are too few
 took_by : (few : Bool) (n : ℕ) (c : Cursor) (r : List ℕ × Cursor) → nat_lt (length c.rest) n ≡ few → are_bytes c.rest ≡ true
@@ -96,6 +89,10 @@ number_at-took_4 c r bytes e = number_took w32 (2 ^ 32) (λ xs size h. le_bytes_
 
 pub number_at-took_8 : (c : Cursor) (r : ℕ × Cursor) → are_bytes c.rest ≡ true → number_at w64 c ≡ Ok r → TookNumber w64 (2 ^ 64) c r
 number_at-took_8 c r bytes e = number_took w64 (2 ^ 64) (λ xs size h. le_bytes_8 xs (from_le_bytes w64 xs) size (λ i. small_byte xs i h) refl) bound_8 c r bytes e
+
+-- the same by a test
+pub number-tested : {w : Width} {bound : ℕ} {c : Cursor} {r : ℕ × Cursor} → TookNumber w bound c r → Took c (to_le_bytes w r.0) r.1 × (nat_lt r.0 bound ≡ true)
+number-tested {bound = bound} {r = r} n = (n.took, le_holds (suc r.0) bound n.below)
 
 -- one byte
 one_byte : (xs : List ℕ) → length xs ≡ 1 → xs ≡ from_le_bytes w8 xs ∷ []

@@ -1,5 +1,5 @@
 -- What readers of counts, lists and other fields have taken.
-use Rattle.std.proofs.Common.{◌≡◌, ℕ, zero, suc, ◌^◌, ◌<◌, ◌≤◌, ◌==◌, Bool, true, false, List, [], ◌∷◌, ◌++◌, ℤ, pos, negsuc, FitsSigned, append-nil, Option, Some, None, Ok, length, nat_lt, flat_map, refl, sym, ap, subst, ◌∙◌, arith, lit<, if◌then◌else◌, append_assoc}
+use Rattle.std.proofs.Common.{◌≡◌, ℕ, zero, suc, ◌^◌, ◌<◌, ◌≤◌, ◌==◌, Bool, true, false, List, [], ◌∷◌, ◌++◌, ℤ, pos, negsuc, FitsSigned, append-nil, Option, Some, None, Ok, length, nat_lt, nat_le, ◌&&◌, flat_map, refl, sym, ap, subst, ◌∙◌, arith, lit<, if◌then◌else◌, append_assoc}
 use Rattle.std.specs.List.{list_all}
 use Rattle.std.specs.Int.{Width, w8, w16, w32, w64, to_le_bytes, cast_signed}
 use Rattle.std.proofs.lemmas.Bool.{eqb-true, eqb-false, eq-eqb, leb-false, lt-leb}
@@ -13,21 +13,17 @@ use Rattle.wire_rules.specs.declared.faults.PayloadKind.TheVariants as fault
 use Rattle.wire_rules.specs.declared.limits.TheConstants.{LIST_LIMIT}
 use Rattle.wire_rules.specs.declared.message.InvEntry.{InvEntry}
 use Rattle.wire_rules.specs.declared.message.Message.{Message}
-use Rattle.wire_laws.proofs.Parts.{both_hold, both_so, le_holds}
+use Rattle.wire_laws.proofs.Parts.{both_so, bytes_join, bytes_split, le_holds}
 use Rattle.wire_laws.proofs.Readers.{two_bytes}
-use Rattle.wire_laws.proofs.Taken.{Took, both_said, bytes_at-took, byte_took, from_ok, number_at-took_2, number_at-took_4, number_at-took_8}
+use Rattle.wire_laws.proofs.Taken.{Took, both_said, bytes_at-took, byte_took, from_ok, number-tested, number_at-took_2, number_at-took_4, number_at-took_8}
 
 -- two readers in a row
 pub took_both : (a b c : Cursor) (xs ys : List ℕ) → Took a xs b → Took b ys c → Took a (xs ++ ys) c
 took_both a b c xs ys first second = record {
   whole = first.whole ∙ ap (λ rest. xs ++ rest) second.whole ∙ sym (append_assoc xs ys c.rest);
-  front = both_parts xs ys first.front second.front;
+  front = bytes_join xs ys first.front second.front;
   left = second.left;
 }
-  where
-    both_parts : (xs ys : List ℕ) → are_bytes xs ≡ true → are_bytes ys ≡ true → are_bytes (xs ++ ys) ≡ true
-    both_parts [] ys hx hy = hy
-    both_parts (x ∷ xs) ys hx hy = let tests = both_hold (nat_lt x (2 ^ 8)) (are_bytes xs) hx in both_so (nat_lt x (2 ^ 8)) (are_bytes (xs ++ ys)) tests.0 (both_parts xs ys tests.1 hy)
 
 -- ---- counts
 
@@ -99,6 +95,13 @@ counted_bytes-took limit c r low bytes e =
       subst (λ n. n ≤ limit) (sym taken.1) count.1,
     )
 
+-- the same by a test
+pub bytes-took : (limit : ℕ) (c : Cursor) (r : List ℕ × Cursor) → limit < 2 ^ 16 → are_bytes c.rest ≡ true → counted_bytes_at limit c ≡ Ok r
+    → Took c (counted r.0) r.1 × ((nat_le (length r.0) limit && are_bytes r.0) ≡ true)
+bytes-took limit c r low bytes e =
+    let taken = counted_bytes-took limit c r low bytes e in
+    (taken.0, both_so (nat_le (length r.0) limit) (are_bytes r.0) (le_holds (length r.0) limit taken.1) (bytes_split (compact_size (length r.0)) r.0 taken.0.front).1)
+
 -- ---- items in a row
 
 module _ {A : Type 0} (item : Cursor → Read A) (spell : A → List ℕ) (test : A → Bool)
@@ -124,26 +127,20 @@ module _ {A : Type 0} (item : Cursor → Read A) (spell : A → List ℕ) (test 
         tests = both_so (test x.0) (list_all test more.0.0) one.1 rest.tests;
       })
 
-  pub record TookCounted (c : Cursor) (r : List A × Cursor) : Type 0 where
-    pub took : Took c (compact_size (length r.0) ++ flat_map spell r.0) r.1
-    pub within : length r.0 ≤ LIST_LIMIT
-    pub tests : list_all test r.0 ≡ true
-
   -- items behind their count
-  pub counted_at-took : (c : Cursor) (r : List A × Cursor) → are_bytes c.rest ≡ true → counted_at item c ≡ Ok r → TookCounted c r
+  pub counted_at-took : (c : Cursor) (r : List A × Cursor) → are_bytes c.rest ≡ true → counted_at item c ≡ Ok r
+      → Took c (compact_size (length r.0) ++ flat_map spell r.0) r.1 × ((nat_le (length r.0) LIST_LIMIT && list_all test r.0) ≡ true)
   counted_at-took c r bytes e =
       let said = both_said (count_at LIST_LIMIT c) (λ n. many_at item n.0 n.1) r e in
       let count = count_at-took LIST_LIMIT c said.0 (lit< tt) bytes said.1 in
-      let items = many_at-took said.0.0 said.0.1 r count.0.left said.2 in
-      record {
-        took = took_both c said.0.1 r.1 (compact_size (length r.0)) (flat_map spell r.0) (subst (λ n. Took c (compact_size n) said.0.1) (sym items.count) count.0) items.took;
-        within = subst (λ n. n ≤ LIST_LIMIT) (sym items.count) count.1;
-        tests = items.tests;
-      }
+      let items = many_at-took said.0.0 said.0.1 r count.0.left said.2 in (
+        took_both c said.0.1 r.1 (compact_size (length r.0)) (flat_map spell r.0) (subst (λ n. Took c (compact_size n) said.0.1) (sym items.count) count.0) items.took,
+        both_so (nat_le (length r.0) LIST_LIMIT) (list_all test r.0) (le_holds (length r.0) LIST_LIMIT (subst (λ n. n ≤ LIST_LIMIT) (sym items.count) count.1)) items.tests,
+      )
 
 -- a short id
 pub short-took : (c : Cursor) (r : ℕ × Cursor) → are_bytes c.rest ≡ true → number_at w32 c ≡ Ok r → Took c (to_le_bytes w32 r.0) r.1 × (nat_lt r.0 (2 ^ 32) ≡ true)
-short-took c r bytes e = let n = number_at-took_4 c r bytes e in (n.took, le_holds (suc r.0) (2 ^ 32) n.below)
+short-took c r bytes e = number-tested (number_at-took_4 c r bytes e)
 
 -- so many bytes
 pub field-took : (n : ℕ) (c : Cursor) (r : List ℕ × Cursor) → are_bytes c.rest ≡ true → bytes_at n c ≡ Ok r → Took c r.0 r.1 × (are_bytes_of n r.0 ≡ true)
