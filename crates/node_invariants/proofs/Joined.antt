@@ -13,7 +13,7 @@ use Rattle.wire_rules.specs.declared.faults.PayloadFault.{PayloadFault}
 use Rattle.wire_rules.specs.declared.frame.Frame.{Frame}
 use Rattle.wire_rules.specs.declared.message.Message.{Message}
 use Rattle.wire_laws.proofs.Said.{message_of-said}
-use Rattle.wire_laws.proofs.Taken.{bytes_split}
+use Rattle.wire_laws.proofs.Parts.{bytes_split}
 use Rattle.stream_laws.proofs.Found.{front-found}
 use Rattle.stream_laws.proofs.Offsets.{later-low}
 use Rattle.pool_rules.specs.Pools.{Held, IsHeld, IsPool, held}
