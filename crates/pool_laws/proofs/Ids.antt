@@ -1,26 +1,15 @@
 -- Ids, keys and short ids.
-use Rattle.std.proofs.Common.{◌≡◌, ℕ, zero, suc, ◌/◌, ◌%◌, ◌^◌, ◌<◌, ◌==◌, nat_lt, nat_le, Bool, true, false, List, ◌++◌, length, slice_index, if◌then◌else◌, refl, sym, ap, ap₂, ◌∙◌, arith, lit<, mod-lt, le-leb, eq-eqb}
-use Rattle.std.specs.Int.{to_be_bytes, byte_at, bytes_high_first, w32}
+use Rattle.std.proofs.Common.{◌≡◌, ℕ, zero, suc, ◌^◌, ◌<◌, ◌==◌, nat_le, Bool, true, false, List, length, slice_index, if◌then◌else◌, refl, sym, ap, ap₂, arith, eq-eqb}
+use Rattle.std.specs.Int.{to_be_bytes, w32}
 use Rattle.std.proofs.lemmas.Bool.{and_from, leb-true, leb-false}
-use Rattle.std.proofs.lemmas.List.Folds.{list_all-append}
 use Rattle.sha2.specs.Sha256.{sha256, digest_bytes, final_hash, initial_hash_256}
 use Rattle.sha2.proofs.Facts256.{length-sha256}
 use Rattle.base_types.specs.declared.lists.Hash32.{Hash32}
 use Rattle.id_rules.specs.Bytes.{are_bytes, are_bytes_of}
 use Rattle.id_rules.specs.Ids.{KeyPair, wtxid, salted, key_in, keys_of, short_id}
+use Rattle.id_rules.proofs.Bytes.{are_bytes-append, are_bytes-high_first}
 
--- ---- bytes
-
-byte_at-small : (i n : ℕ) → nat_lt (byte_at i n) (2 ^ 8) ≡ true
-byte_at-small zero n = le-leb (suc (n % 256)) 256 (mod-lt n (lit< tt))
-byte_at-small (suc i) n = le-leb (suc (n / 256 ^ suc i % 256)) 256 (mod-lt (n / 256 ^ suc i) (lit< tt))
-
-are_bytes-high_first : (k n : ℕ) → are_bytes (bytes_high_first k n) ≡ true
-are_bytes-high_first zero n = refl
-are_bytes-high_first (suc k) n = and_from (nat_lt (byte_at k n) (2 ^ 8)) (are_bytes (bytes_high_first k n)) (byte_at-small k n) (are_bytes-high_first k n)
-
-pub are_bytes-append : (xs ys : List ℕ) → are_bytes xs ≡ true → are_bytes ys ≡ true → are_bytes (xs ++ ys) ≡ true
-are_bytes-append xs ys h k = list_all-append (λ b. nat_lt b (2 ^ 8)) xs ys ∙ and_from (are_bytes xs) (are_bytes ys) h k
+-- ---- ids
 
 are_bytes-digest : (h : List ℕ) (n : ℕ) → are_bytes (digest_bytes h n) ≡ true
 unfolding digest_bytes

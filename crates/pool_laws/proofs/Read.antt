@@ -1,7 +1,7 @@
 -- What is read of a text is a pool.
-use Rattle.std.proofs.Common.{◌≡◌, ℕ, suc, ◌<◌, ◌==◌, nat_le, nat_lt, Bool, true, false, List, [], ◌∷◌, ◌++◌, length, drop, slice_index, if◌then◌else◌, Ok, Err, Some, None, Option, Result, refl, subst, ◌∙◌, arith, le-leb, lt-ltb, length-drop}
+use Rattle.std.proofs.Common.{◌≡◌, ℕ, ◌<◌, ◌==◌, nat_le, nat_lt, Bool, true, false, List, [], ◌∷◌, ◌++◌, length, drop, slice_index, if◌then◌else◌, Ok, Err, Some, None, Option, Result, refl, subst, ◌∙◌, arith, le-leb, lt-ltb, length-drop}
 use Rattle.std.proofs.lemmas.Bool.{and_from, and_parts, leb-true, ltb-false}
-use Rattle.hex.specs.Hex.{IsBytes, decode_of}
+use Rattle.hex.specs.Hex.{decode_of}
 use Rattle.hex.specs.declared.error.FromHexError.{FromHexError}
 use Rattle.hex.proofs.HexLemmas.{decode_of-ok}
 use Rattle.base_types.specs.declared.text.Kind.{Kind}
@@ -12,6 +12,7 @@ use Rattle.line_rules.specs.Lines.{Line, lines_of}
 use Rattle.line_rules.specs.Reading.{behind, read_lines}
 use Rattle.id_rules.specs.Bytes.{are_bytes, is_tx_length}
 use Rattle.id_rules.specs.Ids.{wtxid}
+use Rattle.id_rules.proofs.Bytes.{are_bytes-IsBytes}
 use Rattle.id_rules.specs.declared.TheConstants.{TX_LIMIT}
 use Rattle.pool_rules.specs.PoolFile.{has_form, heading_count, id_in, is_heading, matched, once, pool_in, pool_of_count, pool_of_lines, pool_step, tx_in, within_tx_limit}
 use Rattle.pool_rules.specs.Pools.{Held, Distinct, IsHeld, IsPool, has_room, held, in_pool, same_id}
@@ -36,10 +37,6 @@ kinded_ok (Ok xs) bytes h = cc
 kinded_ok (Err e) bytes h = cc
 
 -- ---- a line
-
-are_bytes-IsBytes : (xs : List ℕ) → IsBytes xs → are_bytes xs ≡ true
-are_bytes-IsBytes [] small = refl
-are_bytes-IsBytes (x ∷ xs) small = and_from (nat_lt x 256) (are_bytes xs) (lt-ltb x 256 (small 0)) (are_bytes-IsBytes xs (λ i. small (suc i)))
 
 -- the digits of a transaction, at least one of them, spell bytes that may be one
 tx_in-may : (text tx : List ℕ) → 0 < length text → tx_in text ≡ Ok tx → IsHeld (held tx)

@@ -1,5 +1,5 @@
 -- A pool that was written, read again.
-use Rattle.std.proofs.Common.{◌≡◌, ℕ, zero, suc, ◌+◌, ◌*◌, ◌<◌, ◌≤◌, ◌==◌, nat_le, nat_lt, true, false, List, [], ◌∷◌, ◌++◌, length, take, drop, slice_index, if◌then◌else◌, Ok, Err, Some, refl, sym, ap, subst, ◌∙◌, arith, append_assoc, eq-eqb, le-leb, le-ltb, lt-ltb, length-append, lit<}
+use Rattle.std.proofs.Common.{◌≡◌, ℕ, suc, ◌+◌, ◌*◌, ◌<◌, ◌≤◌, ◌==◌, nat_le, nat_lt, true, false, List, [], ◌∷◌, ◌++◌, length, take, drop, slice_index, if◌then◌else◌, Ok, Err, Some, refl, sym, ap, subst, ◌∙◌, arith, append_assoc, eq-eqb, le-leb, le-ltb, lt-ltb, length-append}
 use Rattle.std.specs.Prelude.{codes, flat_map}
 use Rattle.std.specs.Fmt.{decimal}
 use Rattle.std.specs.List.{All, AllByRecursion}
@@ -19,6 +19,7 @@ use Rattle.line_rules.proofs.Lines.{IsPlain, digits_plain, plain_since-tested, l
 use Rattle.line_rules.proofs.Numbers.{decimal-plain, number_within-decimal}
 use Rattle.id_rules.specs.Bytes.{are_bytes}
 use Rattle.id_rules.specs.Ids.{wtxid}
+use Rattle.id_rules.proofs.Bytes.{IsBytes-are_bytes}
 use Rattle.id_rules.specs.declared.TheConstants.{TX_LIMIT}
 use Rattle.pool_rules.specs.PoolFile.{has_form, held_line, heading, heading_count, id_in, matched, once, pool_in, pool_of_count, pool_of_lines, pool_step, pool_text, put_in, tx_in, within_tx_limit}
 use Rattle.pool_rules.specs.Pools.{Held, Distinct, IsHeld, IsPool, byte_count, bytes_fit, has_room, held, in_pool, pool_ids, same_id}
@@ -27,12 +28,6 @@ use Rattle.pool_laws.proofs.Ids.{wtxid-bytes}
 use Rattle.pool_laws.proofs.Insertions.{distinct-before, in_pool-listed, same_id-self}
 
 -- ---- bytes and their digits
-
--- a list of bytes, by index
-pub IsBytes-are_bytes : (xs : List ℕ) → are_bytes xs ≡ true → IsBytes xs
-IsBytes-are_bytes [] h k = lit< tt
-IsBytes-are_bytes (x ∷ xs) h zero = ltb-true x 256 (and_parts (nat_lt x 256) (are_bytes xs) h).0
-IsBytes-are_bytes (x ∷ xs) h (suc k) = IsBytes-are_bytes xs (and_parts (nat_lt x 256) (are_bytes xs) h).1 k
 
 pub bytes_in-digits : (bytes : List ℕ) → IsBytes bytes → bytes_in (encode_lower bytes) ≡ Ok bytes
 bytes_in-digits bytes small = ap kinded (decode_of-encode_lower bytes small)
@@ -68,7 +63,7 @@ held_line-plain t w =
     (All-append IsPlain (encode_lower t.id.0) (codes " ") (digits_plain t.id.0 w.id_bytes) (plain_since-tested (codes " ") refl))
     (digits_plain t.bytes w.bytes)
 
--- an id's digits, a space, and more digits: each part is found by its place
+-- an id's digits, a space, and more digits: each part is found by its offset
 module _ (a b : List ℕ) (la : length a ≡ 64) (lb : 0 < length b) where
   front_length : length (a ++ codes " ") ≡ 65
   front_length = omega (arith, length-append a (codes " "))
@@ -92,21 +87,21 @@ module _ (a b : List ℕ) (la : length a ≡ 64) (lb : 0 < length b) where
 
 -- the four steps of a line that is written, each by what the one before read
 module _ (t : Held) (w : IsWritten t) where
-  private_length : length (encode_lower t.id.0) ≡ 64
-  private_length = omega (arith, length-digits t.id.0, w.id_length)
+  id_digits : length (encode_lower t.id.0) ≡ 64
+  id_digits = omega (arith, length-digits t.id.0, w.id_length)
 
   some_digits : 0 < length (encode_lower t.bytes)
   some_digits = omega (arith, length-digits t.bytes, w.some)
 
   pub id_in-held_line : id_in (held_line t) ≡ Ok t.id
   id_in-held_line =
-      ap (λ form. if form then (bytes_in (take 64 (held_line t)) >>= (λ id. Ok (record { 0 = id }))) else Err kind.Form) (parts_form (encode_lower t.id.0) (encode_lower t.bytes) private_length some_digits)
-      ∙ ap (λ digits. bytes_in digits >>= (λ id. Ok (record { 0 = id }))) (parts_id (encode_lower t.id.0) (encode_lower t.bytes) private_length some_digits)
+      ap (λ form. if form then (bytes_in (take 64 (held_line t)) >>= (λ id. Ok (record { 0 = id }))) else Err kind.Form) (parts_form (encode_lower t.id.0) (encode_lower t.bytes) id_digits some_digits)
+      ∙ ap (λ digits. bytes_in digits >>= (λ id. Ok (record { 0 = id }))) (parts_id (encode_lower t.id.0) (encode_lower t.bytes) id_digits some_digits)
       ∙ ap (λ r. r >>= (λ id. Ok (record { 0 = id }))) (bytes_in-digits t.id.0 w.id_bytes)
 
   pub tx_in-held_line : tx_in (drop 65 (held_line t)) ≡ Ok t.bytes
   tx_in-held_line =
-      ap tx_in (parts_tx (encode_lower t.id.0) (encode_lower t.bytes) private_length some_digits)
+      ap tx_in (parts_tx (encode_lower t.id.0) (encode_lower t.bytes) id_digits some_digits)
       ∙ ap (λ r. r >>= within_tx_limit) (bytes_in-digits t.bytes w.bytes)
       ∙ ap (λ long. if long then Err kind.TxTooLong else Ok t.bytes) (le-ltb TX_LIMIT (length t.bytes) w.limited)
 
