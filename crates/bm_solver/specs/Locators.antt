@@ -1,15 +1,13 @@
--- A recurrence as its length and the polynomial 1 + c_1 z + .. + c_L z^L.
-use Rattle.std.specs.Prelude.{◌≡◌, ℕ, zero, suc, ◌+◌, ◌^◌, ◌<◌, ◌≤◌, List, [], ◌∷◌, length}
+-- A recurrence by its polynomial 1 + c_1 z + .. + c_L z^L and its monic form z^L + c_1 z^(L-1) + .. + c_L.
+use Rattle.std.specs.Prelude.{List, drop, reverse}
 use Rattle.sketch_rules.specs.Ops.{Ops}
-use Rattle.poly_rules.specs.Polynomials.{coefficient}
+use Rattle.poly_rules.specs.Polynomials.{IsMonic, Same, degree}
 
--- the n coefficients from that of z^i on
-unfoldable pub coefficients_from : {A : Type 0} → Ops A → List A → ℕ → ℕ → List A
-coefficients_from ops f i zero = []
-coefficients_from ops f i (suc n) = coefficient ops f i ∷ coefficients_from ops f (i + 1) n
+-- c_1, .., c_L, read from the coefficients c_L, .., c_1, 1 of the monic form
+abbrev pub coefficients_of : {A : Type 0} → List A → List A
+coefficients_of monic = drop 1 (reverse monic)
 
--- a recurrence of this length has the polynomial f
-pub record IsLocator {A : Type 0} (ops : Ops A) (size : ℕ) (f : List A) : Type 0 where
-  pub constant : coefficient ops f 0 ≡ ops.one
-  pub within : length f ≤ size + 1
-  pub fits : size + 1 < 2 ^ 64
+-- both are of one recurrence
+pub record IsLocator {A : Type 0} (ops : Ops A) (poly monic : List A) : Type 0 where
+  pub is_monic : IsMonic ops (degree monic) monic
+  pub is_poly : Same ops poly (reverse monic)

@@ -28,7 +28,7 @@ pub fn shortest<F: Field>(alloc: Global, sums: &[F]) -> Result<Locator<F>, OutOf
     for n in 0..sums.len() {
         solver.read(sums, n)?;
     }
-    Ok(Locator::from_monic(solver.current))
+    Locator::from_monic(solver.current, solver.spare)
 }
 
 /// What is kept of the items read so far. Recurrences stand in their monic form, `c_L, .., c_1, 1`.

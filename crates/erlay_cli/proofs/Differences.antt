@@ -1,41 +1,23 @@
 -- The sum of the sketches of two sets, decoded.
-use Rattle.std.proofs.Common.{◌≡◌, inl, inr, ℕ, ◌^◌, ◌<◌, ◌≤◌, List, [], ◌∷◌, ◌++◌, length, get_or, map, sym, ap, subst, ◌∙◌, arith, length-append}
-use Rattle.std.specs.List.{All, Contains}
-use Rattle.std.proofs.lemmas.List.Elements.{Contains-get_or}
-use Rattle.sketch_rules.specs.Ops.{sketch_by}
-use Rattle.sketch_rules.specs.Elements.{numbers}
+use Rattle.std.proofs.Common.{◌≡◌, ℕ, ◌^◌, ◌<◌, ◌≤◌, List, [], ◌∷◌, ◌++◌, length, Some, refl, sym, ap, ◌∙◌, arith, length-append}
+use Rattle.std.specs.List.{All}
 use Rattle.sketch_rules.specs.Sets.{difference}
 use Rattle.sketch_rules.specs.Sketches.{IsCapacity, digits_of, merged, sketch_of}
-use Rattle.sketch_rules.specs.Answers.{Answer as SketchAnswer}
-use Rattle.sketch_laws.proofs.Differences.{length-sketch_at, of_difference, difference_answers}
+use Rattle.sketch_rules.specs.Answers.{answer_of}
+use Rattle.sketch_laws.proofs.Differences.{length-sketch_at, of_difference}
 use Rattle.sketch_laws.proofs.Merging.{merged-sketches}
-use Rattle.sketch_laws.proofs.NumberedLists.{elements_of}
-use Rattle.sketch_laws.proofs.Rising.{Rises-from_AllPairs}
-use Rattle.sketch_laws.proofs.Sets.{has-from_Contains, Contains-from_has, difference-from, difference-rises}
-use Rattle.sketch_laws.proofs.SketchNumbers.{sketch_by-numbers}
-use Rattle.sketch_laws.proofs.Unique.{answer_at-is}
+use Rattle.sketch_bytes.proofs.Sketches.{sketch_small}
+use Rattle.trace_roots.proofs.Decoded.{differs}
 use Rattle.field_core.specs.Gf32.{bits_of, field, numbered, ops, ring}
 use Rattle.line_rules.specs.Lines.{line}
 use Rattle.text_rules.specs.Elements.{IsSet, set_text}
 use Rattle.text_rules.specs.Limits.{input_limit}
 use Rattle.text_rules.proofs.Written.{set_in-text}
-use Rattle.element_lines.proofs.Numbers.{below}
 use Rattle.erlay_cli.specs.declared.command.Command.TheVariants as command
 use Rattle.erlay_cli.specs.declared.status.Status.TheVariants as status
 use Rattle.erlay_cli.specs.Answers.{Answer, answer_to, decoded, found, made, sketched, summed}
 use Rattle.erlay_cli.proofs.Endings.{short_answer}
 use Rattle.erlay_cli.proofs.Spelled.{length-digits_of, sketch_in-line, sum_in-lines}
-
--- ---- sketches
-
--- each is an element
-sums_small : (es : List ℕ) (c : ℕ) → All (λ e. e < 2 ^ 32) es → All (λ s. s < 2 ^ 32) (sketch_of es c)
-sums_small es c small =
-    let made = elements_of ops bits_of 32 numbered es small in
-    let same : map bits_of (sketch_by ops made.0 c) ≡ sketch_of es c = sketch_by-numbers ops bits_of 32 numbered made.0 c ∙ ap (λ ns. sketch_of ns c) made.1 in
-    subst (λ (ns : List ℕ). All (λ s. s < 2 ^ 32) ns) same (below (sketch_by ops made.0 c))
-
--- ---- the commands
 
 -- the line of a sketch is within the limit
 line_within : (sums : List ℕ) → IsCapacity (length sums) → length (line (digits_of sums)) ≤ input_limit
@@ -43,12 +25,12 @@ line_within sums capacity =
     let digits = length-digits_of sums in let whole = length-append (digits_of sums) (10 ∷ []) in omega (arith, capacity.1)
 
 -- the line of a sketch that a set has, decoded
-line_decoded : (sums es : List ℕ) → IsCapacity (length sums) → All (λ s. s < 2 ^ 32) sums → SketchAnswer 32 sums es
+line_decoded : (sums es : List ℕ) → IsCapacity (length sums) → All (λ s. s < 2 ^ 32) sums → answer_of sums ≡ Some es
     → answer_to command.Decode (line (digits_of sums)) ≡ record { status = status.Ok; text = set_text es }
-line_decoded sums es capacity small answer =
+line_decoded sums es capacity small answered =
     short_answer command.Decode (line (digits_of sums)) (line_within sums capacity)
     ∙ ap decoded (sketch_in-line sums capacity small)
-    ∙ ap found (answer_at-is ops bits_of 32 ring field numbered sums es answer)
+    ∙ ap found answered
 
 -- the text of a set, made a sketch of
 set_made : (es : List ℕ) (c : ℕ) → IsSet es → length (set_text es) ≤ input_limit → answer_to (command.Make c) (set_text es) ≡ sketched (sketch_of es c)
@@ -75,8 +57,8 @@ module _ (xs ys : List ℕ) (c : ℕ) (x_set : IsSet xs) (y_set : IsSet ys) (cap
   difference_decoded few =
       line_decoded (merged (sketch_of xs c) (sketch_of ys c)) (difference xs ys)
       (rw is_sketch (fits (difference xs ys)))
-      (rw is_sketch (sums_small (difference xs ys) c (λ k d within. (of_difference (λ e. (0 < e) × (e < 2 ^ 32)) xs ys x_set.0 y_set.0 k d within).1)))
-      (difference_answers 32 xs ys c x_set.0 y_set.0 x_set.1 y_set.1 few)
+      (rw is_sketch (sketch_small ops bits_of 32 numbered (difference xs ys) c (λ k d within. (of_difference (λ e. (0 < e) × (e < 2 ^ 32)) xs ys x_set.0 y_set.0 k d within).1)))
+      (differs ops ring bits_of 32 field numbered (answer_of (merged (sketch_of xs c) (sketch_of ys c))) (merged (sketch_of xs c) (sketch_of ys c)) xs ys c refl x_set.0 y_set.0 x_set.1 y_set.1 few refl)
 
   -- the lines of the sketches, merged and decoded
   pub difference_found : length (difference xs ys) ≤ c → length (set_text xs) ≤ input_limit → length (set_text ys) ≤ input_limit
@@ -90,4 +72,4 @@ module _ (xs ys : List ℕ) (c : ℕ) (x_set : IsSet xs) (y_set : IsSet ys) (cap
       ∙ difference_decoded few
     where
       small : (es : List ℕ) → IsSet es → All (λ s. s < 2 ^ 32) (sketch_of es c)
-      small es set = sums_small es c (λ k d within. (set.0 k d within).1)
+      small es set = sketch_small ops bits_of 32 numbered es c (λ k d within. (set.0 k d within).1)

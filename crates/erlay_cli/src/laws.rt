@@ -12,8 +12,8 @@ use crate::command::Command;
 use crate::status::Status;
 
 /// Where two sets differ in no more elements than a sketch has sums, `decode` answers the elements that they differ in:
-/// to the line of the sum of their sketches, and so to what `merge` answers to what `make` answers to the texts of the
-/// sets. It does nothing when it runs: its contract is the theorem.
+/// to the line of the sum of their sketches, and, where the texts of the sets are within the limit of an input, to what
+/// `merge` answers to what `make` answers to these. It does nothing when it runs: its contract is the theorem.
 pub fn differences_are_decoded()
     ensures sum { (xs ys : List ℕ) (c : ℕ) → IsSet xs → IsSet ys → IsCapacity c → length (difference xs ys) ≤ c
         → answer_to Command.Decode (line (digits_of (merged (sketch_of xs c) (sketch_of ys c)))) ≡ record { status = Status.Ok; text = set_text (difference xs ys) } }

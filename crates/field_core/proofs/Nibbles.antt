@@ -10,6 +10,7 @@ use Rattle.sketch_laws.proofs.Folds.{fold_once}
 use Rattle.sketch_laws.proofs.Products.{product-below, product-shift, rest_is_the_product}
 use Rattle.sketch_laws.proofs.Rings.{product-one, product-xor, product-assoc}
 use Rattle.field_core.specs.Tables.{IsTable, AreTables}
+use Rattle.field_core.proofs.Windows.{nibble_sums}
 
 -- ---- the words
 
@@ -91,11 +92,7 @@ module _ (a two four eight : ℕ) (fits : a < 2 ^ 32) (by_two : two ≡ product 
 
   -- the sixteen multiples
   abbrev sixteen : List ℕ
-  sixteen =
-      0 ∷ a ∷ two ∷ bit_xor a two ∷ four ∷ bit_xor a four ∷ bit_xor two four ∷ bit_xor (bit_xor a two) four
-      ∷ eight ∷ bit_xor a eight ∷ bit_xor two eight ∷ bit_xor (bit_xor a two) eight
-      ∷ bit_xor four eight ∷ bit_xor (bit_xor a four) eight ∷ bit_xor (bit_xor two four) eight
-      ∷ bit_xor (bit_xor (bit_xor a two) four) eight ∷ []
+  sixteen = nibble_sums a two four eight
 
   upper_are : (j : ℕ) → j < 8 → slice_index sixteen (suc (suc (suc (suc (suc (suc (suc (suc j)))))))) ≡ product 32 a (suc (suc (suc (suc (suc (suc (suc (suc j))))))))
   upper_are zero lt = at_eight

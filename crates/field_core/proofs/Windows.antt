@@ -6,14 +6,18 @@ use Rattle.std.proofs.lemmas.Nat.{and_mask, shr-shr}
 use Rattle.sketch_rules.specs.Elements.{carryless_below}
 use Rattle.sketch_laws.proofs.Carryless.{carryless_below-lt, carryless_below-window}
 
+-- the exclusive or of those of the four terms at which the list index has a 1, the first at its lowest bit
+abbrev pub nibble_sums : ℕ → ℕ → ℕ → ℕ → List ℕ
+nibble_sums one two four eight =
+    0 ∷ one ∷ two ∷ bit_xor one two
+    ∷ four ∷ bit_xor one four ∷ bit_xor two four ∷ bit_xor (bit_xor one two) four
+    ∷ eight ∷ bit_xor one eight ∷ bit_xor two eight ∷ bit_xor (bit_xor one two) eight
+    ∷ bit_xor four eight ∷ bit_xor (bit_xor one four) eight ∷ bit_xor (bit_xor two four) eight
+    ∷ bit_xor (bit_xor (bit_xor one two) four) eight ∷ []
+
 -- the multiples of a by the polynomials of 4 bits
 abbrev pub multiples_of : ℕ → List ℕ
-multiples_of a =
-    0 ∷ a ∷ a * 2 ∷ bit_xor a (a * 2)
-    ∷ a * 4 ∷ bit_xor a (a * 4) ∷ bit_xor (a * 2) (a * 4) ∷ bit_xor (bit_xor a (a * 2)) (a * 4)
-    ∷ a * 8 ∷ bit_xor a (a * 8) ∷ bit_xor (a * 2) (a * 8) ∷ bit_xor (bit_xor a (a * 2)) (a * 8)
-    ∷ bit_xor (a * 4) (a * 8) ∷ bit_xor (bit_xor a (a * 4)) (a * 8) ∷ bit_xor (bit_xor (a * 2) (a * 4)) (a * 8)
-    ∷ bit_xor (bit_xor (bit_xor a (a * 2)) (a * 4)) (a * 8) ∷ []
+multiples_of a = nibble_sums a (a * 2) (a * 4) (a * 8)
 
 pub multiples_are : (a k : ℕ) → k < 16 → slice_index (multiples_of a) k ≡ carryless_below 4 a k
 unfolding carryless_below

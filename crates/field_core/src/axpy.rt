@@ -4,10 +4,13 @@ ghost use Rattle.std.specs.Prelude.{◌≡◌, length, map};
 ghost use Rattle.sketch_rules.specs.Fields.{with_multiple};
 ghost use Rattle.field_core.specs.Gf32.{ops, bits_of};
 
-use crate::{Field, Gf32, LaneMultiples, Multiples};
+use crate::lane_multiples::LaneMultiples;
+use crate::multiples::Multiples;
+use crate::{Field, Gf32};
 use std::simd::prelude::*;
 
-/// By a product for each place.
+/// By a product for each item. The body is the default's: a trait's default can't call a function that is generic over
+/// the trait.
 pub fn axpy_by_products(acc: &mut [Gf32], k: Gf32, x: &[Gf32])
     requires { length acc.old ≡ length x.now }
     ensures { acc.new ≡ with_multiple ops acc.old k x.now }

@@ -4,32 +4,14 @@ ghost use Rattle.std.specs.Prelude.{◌≡◌, ℕ, ◌<◌, ◌^◌, ◌/◌, �
 ghost use Rattle.sketch_rules.specs.Elements.{carryless_below, remainder};
 ghost use Rattle.sketch_rules.specs.Elements.{product as product_of};
 
+use crate::nibble_tables::nibble_sums;
+
 /// The multiples of `a` by the 16 polynomials of 4 bits.
 fn multiples(a: u32) -> [u64; 16]
     ensures { (k : ℕ) → k < 16 → slice_index result k ≡ carryless_below 4 a k }
 {
     let one = a as u64;
-    let (two, four, eight) = (one * 2, one * 4, one * 8);
-    let three = one ^ two;
-    let (five, six, seven) = (one ^ four, two ^ four, three ^ four);
-    [
-        0,
-        one,
-        two,
-        three,
-        four,
-        five,
-        six,
-        seven,
-        eight,
-        one ^ eight,
-        two ^ eight,
-        three ^ eight,
-        four ^ eight,
-        five ^ eight,
-        six ^ eight,
-        seven ^ eight,
-    ]
+    nibble_sums!(one, one * 2, one * 4, one * 8)
 }
 
 /// The product of two polynomials, by windows of 4 bits from the top.

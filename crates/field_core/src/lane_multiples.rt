@@ -4,15 +4,15 @@ ghost use Rattle.std.specs.Prelude.{◌≡◌, ℕ, ◌*◌, ◌/◌, ◌%◌, �
 ghost use Rattle.sketch_rules.specs.Elements.{product};
 ghost use Rattle.field_core.specs.Tables.{AreByteTables};
 
-use crate::Multiples;
 use crate::lanes::{bytes_at, looked_up, upper_halves, words_with};
+use crate::multiples::Multiples;
 use std::marker::Model;
 use std::simd::prelude::*;
 
 /// The products of one factor with each value of each nibble of the other, byte by byte. A contract sees it as its
 /// factor.
 #[derive(Drop)]
-pub struct LaneMultiples {
+pub(crate) struct LaneMultiples {
     multiples: Multiples,
     tables: [[u8; 16]; 32],
 }

@@ -8,11 +8,10 @@ mod gf32;
 mod lane_multiples;
 mod lanes;
 mod multiples;
+mod nibble_tables;
 mod odd_powers;
 #[cfg(test)]
 mod tests;
 
 pub use field::Field;
 pub use gf32::Gf32;
-pub use lane_multiples::LaneMultiples;
-pub use multiples::Multiples;

@@ -4,11 +4,12 @@ ghost use Rattle.std.specs.Prelude.{◌≡◌, ℕ, ◌*◌, ◌/◌, ◌%◌, �
 ghost use Rattle.sketch_rules.specs.Elements.{product};
 ghost use Rattle.field_core.specs.Tables.{AreTables, IsTable};
 
+use crate::nibble_tables::nibble_sums;
 use std::marker::Model;
 
 /// The products of one factor with each value of each nibble of the other. A contract sees it as its factor.
 #[derive(Drop)]
-pub struct Multiples {
+pub(crate) struct Multiples {
     factor: u32,
     tables: [[u32; 16]; 8],
 }
@@ -73,26 +74,7 @@ fn nibble_multiples(one: u32) -> [u32; 16]
     let two = doubled(one);
     let four = doubled(two);
     let eight = doubled(four);
-    let three = one ^ two;
-    let (five, six, seven) = (one ^ four, two ^ four, three ^ four);
-    [
-        0,
-        one,
-        two,
-        three,
-        four,
-        five,
-        six,
-        seven,
-        eight,
-        one ^ eight,
-        two ^ eight,
-        three ^ eight,
-        four ^ eight,
-        five ^ eight,
-        six ^ eight,
-        seven ^ eight,
-    ]
+    nibble_sums!(one, two, four, eight)
 }
 
 /// The product of `a` and `x`.

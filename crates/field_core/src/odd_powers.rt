@@ -4,9 +4,10 @@ ghost use Rattle.std.specs.Prelude.{◌≡◌};
 ghost use Rattle.sketch_rules.specs.Ops.{with_odd_powers};
 ghost use Rattle.field_core.specs.Gf32.{ops};
 
-use crate::{Field, Gf32, Multiples};
+use crate::multiples::Multiples;
+use crate::{Field, Gf32};
 
-/// By a product for each place, which waits for the one before.
+/// By a product for each item, which waits for the one before.
 pub fn add_by_products(acc: &mut [Gf32], e: Gf32)
     ensures { acc.new ≡ with_odd_powers ops e 0 acc.old }
 {

@@ -1,6 +1,6 @@
 mod Answering
 mod Ascending
-mod Decoded
+pub mod Decoded
 mod Equal
 mod Found
 mod Halving

@@ -12,7 +12,7 @@ ghost use Rattle.trace_roots.specs.Parts.{Fits, IsSet, AreTraces, IsPart, AreSid
 use crate::traces::reduced;
 use crate::windows::{added, windows};
 use base_types::OutOfMemory;
-use bm_solver::{Locator, monic, shortest};
+use bm_solver::{Locator, shortest};
 use field_core::Field;
 use poly_ops::{Poly, extend_recurrence};
 use std::alloc::Global;
@@ -48,9 +48,9 @@ pub fn halves<F: Field>(
 {
     let sides = solved(alloc, part, trace)?;
     if sides.inner.length() <= sides.outer.length() {
-        parted(alloc, part, &sides.inner, sides.inside.as_slice())
+        parted(alloc, part, sides.inner, sides.inside.as_slice())
     } else {
-        parted(alloc, part, &sides.outer, sides.outside.as_slice())
+        parted(alloc, part, sides.outer, sides.outside.as_slice())
     }
 }
 
@@ -86,16 +86,16 @@ fn solved<F: Field>(alloc: Global, part: &Part<F>, trace: &Poly<F>) -> Result<Si
 fn parted<F: Field>(
     alloc: Global,
     part: &Part<F>,
-    smaller: &Locator<F>,
+    smaller: Locator<F>,
     sums: &[F],
 ) -> Result<Option<(Part<F>, Part<F>)>, OutOfMemory>
     requires fits { Fits F.ops part.now.locator part.now.sums.items part.now.traces.items }
     requires sums { length sums.now ≡ degree part.now.locator }
     ensures first { IfOk result (λ r. IfSome r (λ p. Fits F.ops p.0.locator p.0.sums.items p.0.traces.items)) }
     ensures second { IfOk result (λ r. IfSome r (λ p. Fits F.ops p.1.locator p.1.sums.items p.1.traces.items)) }
-    ensures found { (first : ℕ) (small large : List F) → IsSmaller F.ops F.bits_of F.BITS first small large part.now.sums.items part.now.traces.items sums.now smaller.now
+    ensures found { (first : ℕ) (small large : List F) → IsSmaller F.ops F.bits_of F.BITS first small large part.now.sums.items part.now.traces.items sums.now smaller
         → IfOk result IsSome }
-    ensures parts { (first : ℕ) (small large : List F) → IsSmaller F.ops F.bits_of F.BITS first small large part.now.sums.items part.now.traces.items sums.now smaller.now
+    ensures parts { (first : ℕ) (small large : List F) → IsSmaller F.ops F.bits_of F.BITS first small large part.now.sums.items part.now.traces.items sums.now smaller
         → IfOk result (λ r. IfSome r (λ p. IsPart F.ops F.bits_of F.BITS first small p.0.locator p.0.sums.items p.0.traces.items
         × IsPart F.ops F.bits_of F.BITS first large p.1.locator p.1.sums.items p.1.traces.items)) }
 {
@@ -103,14 +103,14 @@ fn parted<F: Field>(
     if size == 0 || n < size || n - size < size {
         return Ok(None);
     }
-    let f = monic(alloc, smaller)?;
+    let f = smaller.into_monic_form();
     let own = extend_recurrence(alloc, &f, sums, 2 * (n - size))?;
     let rest = added(alloc, own.as_slice(), part.sums.as_slice())?;
     let larger = shortest(alloc, rest.as_slice())?;
     if larger.length() != n - size {
         return Ok(None);
     }
-    let g = monic(alloc, &larger)?;
+    let g = larger.into_monic_form();
     let first = with_traces(alloc, f, own, part.traces.as_slice())?;
     let second = with_traces(alloc, g, rest, part.traces.as_slice())?;
     Ok(Some((first, second)))

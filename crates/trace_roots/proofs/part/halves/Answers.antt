@@ -29,8 +29,8 @@ returns-then-length g c = record {
         c.in_ok-sides.sides.inside.items c.in_ok-sides.sides.outside.items c.in_ok-sides.sides.inner c.in_ok-sides.sides.outer c.in_ok-sides.ensures c.as_slice.result.now c.as_slice.ensures.value c.requires.apart c.requires.trimmed
         c.requires.fits.some (omega (arith, c.if-length.true, c.length.ensures, c.length-2.ensures))
 
-pub returns : goal.returns
-returns g c = record {
+pub returns-else-length : goal.returns-else-length
+returns-else-length g c = record {
   first = c.parted-else-length.ensures.first;
   second = c.parted-else-length.ensures.second;
   found = λ place b es bits part traced. c.parted-else-length.ensures.found (place + 1) (others_of g.F.Field.ops g.F.Field.bits_of c.args.trace.now es) (part_of g.F.Field.ops g.F.Field.bits_of c.args.trace.now es) (smaller place b es part traced);

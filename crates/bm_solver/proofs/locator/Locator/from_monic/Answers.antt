@@ -1,18 +1,27 @@
-use Rattle.std.proofs.Common.{◌≡◌, ◌++◌, ◌-◌, length, take, drop, reverse, arith, ap, ◌∙◌}
+use Rattle.std.proofs.Common.{◌≡◌, ◌++◌, ◌∷◌, length, take, drop, reverse, arith, ap, subst, sym, ◌∙◌}
 use Rattle.std.proofs.lemmas.List.{take_at}
-use Rattle.bm_solver.proofs.Locators.{locator_of_monic, monic_is}
+use Rattle.poly_rules.specs.Polynomials.{Same, IsMonic, degree}
+use Rattle.bm_solver.specs.Locators.{coefficients_of}
+use Rattle.bm_solver.proofs.Locators.{monic_is, monic_only}
 use Rattle.bm_solver.proofs.locator.Locator.from_monic.Goals as goal
 
 pub invariant_of-result : goal.invariant_of-result
-invariant_of-result g c =
-    let turned : take c.args.monic.len (c.reverse.new.self ++ drop (length c.reverse.new.self) c.args.monic.items) ≡ reverse c.args.monic.items =
-    take_at c.reverse.new.self (drop (length c.reverse.new.self) c.args.monic.items) c.args.monic.len (omega arith) ∙ c.reverse.ensures.after ∙ ap reverse c.as_mut_slice.ensures.value in
-    locator_of_monic g.F.Field.ops (c.len.result - 1) c.args.monic.items (take c.args.monic.len (c.reverse.new.self ++ drop (length c.reverse.new.self) c.args.monic.items)) c.from_coeffs.result
-    c.requires (omega arith) (omega arith) turned c.from_coeffs.ensures.same c.from_coeffs.ensures.no_longer
+invariant_of-result g c = record {
+  is_monic = subst (λ f. IsMonic g.F.Field.ops (degree f) f) (sym kept) c.requires;
+  is_poly = subst (Same g.F.Field.ops c.from_coeffs.result) (turned ∙ ap reverse (sym kept)) c.from_coeffs.ensures.same;
+}
+  where
+    kept : c.from_coeffs-2.result ≡ c.args.monic.items
+    kept = monic_only g.F.Field.ops c.from_coeffs-2.result c.args.monic.items g.met.F.Field.field.apart c.from_coeffs-2.ensures.trimmed c.requires c.from_coeffs-2.ensures.same
+
+    turned : take c.extend_from_slice.new.self.len (c.reverse.new.self ++ drop (length c.reverse.new.self) c.extend_from_slice.new.self.items) ≡ reverse c.args.monic.items
+    turned =
+        take_at c.reverse.new.self (drop (length c.reverse.new.self) c.extend_from_slice.new.self.items) c.extend_from_slice.new.self.len (omega arith)
+        ∙ c.reverse.ensures.after
+        ∙ ap reverse (c.as_mut_slice.ensures.value ∙ c.in_ok-extend_from_slice.ensures.items ∙ ap (λ z. z ++ c.as_slice.result.now) c.clear.ensures.items ∙ c.as_slice.ensures.value)
 
 pub returns : goal.returns
 returns g c =
-    let turned : take c.args.monic.len (c.reverse.new.self ++ drop (length c.reverse.new.self) c.args.monic.items) ≡ reverse c.args.monic.items =
-    take_at c.reverse.new.self (drop (length c.reverse.new.self) c.args.monic.items) c.args.monic.len (omega arith) ∙ c.reverse.ensures.after ∙ ap reverse c.as_mut_slice.ensures.value in
-    monic_is g.F.Field.ops (c.len.result - 1) c.args.monic.items (take c.args.monic.len (c.reverse.new.self ++ drop (length c.reverse.new.self) c.args.monic.items)) c.from_coeffs.result
-    c.requires (omega arith) turned c.from_coeffs.ensures.same (invariant_of-result g c)
+    monic_is g.F.Field.ops c.args.monic.items c.requires
+    ∙ ap (λ f. reverse (g.F.Field.ops.one ∷ coefficients_of f))
+    (sym (monic_only g.F.Field.ops c.from_coeffs-2.result c.args.monic.items g.met.F.Field.field.apart c.from_coeffs-2.ensures.trimmed c.requires c.from_coeffs-2.ensures.same))
