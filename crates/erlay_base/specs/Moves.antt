@@ -1,5 +1,5 @@
 -- What moves from a source and to a sink, where bytes are told.
-use Rattle.std.specs.Prelude.{ℕ, ◌<◌, List, length, take, Result, IfOk}
+use Rattle.std.specs.Prelude.{ℕ, ◌<◌, ◌≤◌, List, length, take, Result, IfOk}
 use Rattle.std.specs.Io.KnownBytes.{Appends, Consumes}
 use Rattle.std.specs.declared.option.Option.{Option}
 
@@ -14,3 +14,7 @@ TakesCount old new P = (bs : List ℕ) × Consumes old new bs × P (length bs)
 -- a proper front part of the bytes was written
 abbrev pub WritesPart : Option (List ℕ) → Option (List ℕ) → List ℕ → Type 0
 WritesPart old new bytes = (n : ℕ) × (n < length bytes) × Appends old new (take n bytes)
+
+-- a front part of the piece was written: none of it, some or all
+abbrev pub WritesFront : Option (List ℕ) → Option (List ℕ) → List ℕ → Type 0
+WritesFront old new piece = (n : ℕ) × (n ≤ length piece) × Appends old new (take n piece)

@@ -1,6 +1,6 @@
 //! Reading a source to its end.
 
-ghost use Rattle.std.specs.Prelude.{◌≡◌, ◌+◌, ◌<◌, ◌≤◌, IfOk, OnOk, length, vec_len};
+ghost use Rattle.std.specs.Prelude.{◌≡◌, ◌≢◌, ◌+◌, ◌<◌, ◌≤◌, IfOk, OnOk, vec_len};
 ghost use Rattle.std.specs.Io.KnownBytes.{Consumes, IsAtEnd};
 ghost use Rattle.erlay_base.specs.Causes.{Rose};
 ghost use Rattle.erlay_base.specs.Moves.{TakesCount};
@@ -23,7 +23,7 @@ pub enum ReadEnd {
 }
 
 /// Reads all bytes that are left, at most `limit` of them. Takes memory for them and for one piece
-/// of at most 64 KB.
+/// of at most 64 KB. No read follows one that failed.
 pub fn read_all<S: Source>(alloc: Global, source: &mut S, limit: usize) -> Result<Vec<u8>, ReadEnd>
     requires { limit < usize.MAX }
     ensures all { IfOk result (λ bytes. Consumes (S.left source.old) (S.left source.new) bytes.items) }
@@ -33,32 +33,13 @@ pub fn read_all<S: Source>(alloc: Global, source: &mut S, limit: usize) -> Resul
     ensures stopped { result ≡ Err ReadEnd.Failed → TakesCount (S.left source.old) (S.left source.new) (λ n. n ≤ limit) }
     ensures refused { result ≡ Err ReadEnd.OutOfMemory → TakesCount (S.left source.old) (S.left source.new) (λ n. n ≤ limit + 1) }
     ensures failed { result ≡ Err ReadEnd.Failed → Rose (S.faults source.old) (S.faults source.new) }
+    ensures no_fault { result ≢ Err ReadEnd.Failed → S.faults source.new ≡ S.faults source.old }
     ensures later { S.faults source.old ≤ S.faults source.new }
 {
     let Ok(mut buf) = vec![in alloc; 0u8; PIECE.min(limit + 1)] else {
         return Err(ReadEnd::OutOfMemory);
     };
-    read_by(alloc, source, buf.as_mut_slice(), limit)
-}
-
-// Reads all bytes that are left, in pieces of at most the length of `buf`.
-fn read_by<S: Source>(
-    alloc: Global,
-    source: &mut S,
-    buf: &mut [u8],
-    limit: usize,
-) -> Result<Vec<u8>, ReadEnd>
-    requires below { limit < usize.MAX }
-    requires room { 0 < length buf.old }
-    ensures all { IfOk result (λ bytes. Consumes (S.left source.old) (S.left source.new) bytes.items) }
-    ensures end { OnOk result (IsAtEnd (S.left source.new)) }
-    ensures within { IfOk result (λ bytes. vec_len bytes ≤ limit) }
-    ensures too_long { result ≡ Err ReadEnd.TooLong → TakesCount (S.left source.old) (S.left source.new) (λ n. n ≡ limit + 1) }
-    ensures stopped { result ≡ Err ReadEnd.Failed → TakesCount (S.left source.old) (S.left source.new) (λ n. n ≤ limit) }
-    ensures refused { result ≡ Err ReadEnd.OutOfMemory → TakesCount (S.left source.old) (S.left source.new) (λ n. n ≤ limit + 1) }
-    ensures failed { result ≡ Err ReadEnd.Failed → Rose (S.faults source.old) (S.faults source.new) }
-    ensures later { S.faults source.old ≤ S.faults source.new }
-{
+    let buf = buf.as_mut_slice();
     let mut bytes = Vec::new(alloc);
     while bytes.len() <= limit {
         let room = buf.len().min(limit - bytes.len() + 1);

@@ -1,10 +1,11 @@
 //! Sources and sinks over the standard library's readers and writers.
 
-ghost use Rattle.std.specs.Prelude.{◌≡◌, None, IfOk, take};
+ghost use Rattle.std.specs.Prelude.{◌≡◌, ◌↔◌, None, IfOk, IsTrue, OnErr, take};
+ghost use Rattle.std.specs.IoError.{error_kind};
 ghost use Rattle.std.specs.Io.{ReadsAtMost, WritesAtMost};
 ghost use Rattle.std.specs.Io.KnownBytes.{Appends, Keeps, ReadConsumes, WriteAppends};
 ghost use Rattle.erlay_base.specs.Causes.{HasCause, count_if_failed};
-ghost use Rattle.erlay_base.specs.Moves.{TakesSome};
+ghost use Rattle.erlay_base.specs.Moves.{TakesSome, WritesFront};
 
 use crate::calls::fault;
 use crate::{Sink, Source};
@@ -63,7 +64,8 @@ impl<R: Read + Drop> Source for StdSource<R> {
 /// A sink over a writer. It tells no bytes. Each write is followed by a flush. A write or flush that
 /// a signal interrupts is tried again, a thousand times in all; any other error, the last
 /// interruption, and a write that takes no byte of a piece that isn't empty is a fault. Where the
-/// flush fails, the writer may hold or have passed on what it took just before.
+/// flush fails, the writer may hold or have passed on what it took just before: a front part of the
+/// piece, and nothing else.
 #[derive(Drop)]
 pub struct StdSink<W: Drop> {
     writer: W,
@@ -100,6 +102,7 @@ impl<W: Write + Drop> Sink for StdSink<W> {
         ensures cause { HasCause self.old.faults self.new.faults result }
         ensures faults { self.new.faults ≡ count_if_failed result self.old.faults }
         ensures passed { IfOk result (λ n. Appends (W.contents self.old.stream) (W.contents self.new.stream) (take n piece.now)) }
+        ensures front { OnErr result (WritesFront (W.contents self.old.stream) (W.contents self.new.stream) piece.now) }
     {
         match write_retrying(&mut self.writer, piece) {
             Ok(count) if count > 0 || piece.is_empty() => Ok(count),
@@ -108,7 +111,10 @@ impl<W: Write + Drop> Sink for StdSink<W> {
     }
 }
 
-fn is_interrupted(error: &Error) -> bool {
+/// A signal interrupted the call.
+fn is_interrupted(error: &Error) -> bool
+    ensures { IsTrue result ↔ (error_kind error.now ≡ ErrorKind.Interrupted) }
+{
     error.kind() == ErrorKind::Interrupted
 }
 
@@ -131,6 +137,7 @@ fn read_retrying<R: Read>(reader: &mut R, buf: &mut [u8]) -> Result<usize, Faile
 fn write_retrying<W: Write>(writer: &mut W, piece: &[u8]) -> Result<usize, Failed>
     ensures bound { WritesAtMost result piece.now }
     ensures bytes { IfOk result (λ n. Appends (W.contents writer.old) (W.contents writer.new) (take n piece.now)) }
+    ensures front { OnErr result (WritesFront (W.contents writer.old) (W.contents writer.new) piece.now) }
 {
     for _ in 0..TRIES {
         match writer.write(piece) {

@@ -1,100 +1,120 @@
-//! Moving bytes through the fakes, with calls that fail in mid-stream.
-
-ghost use Rattle.std.specs.Prelude.{◌≤◌};
+//! Moving bytes through the fakes, with calls that fail in mid-stream, and through streams of the standard library.
 
 use super::*;
 use std::alloc::{AllocError, Global};
+use std::io::{Error, ErrorKind, Write};
 use std::test::Fail;
 
-// The bytes `from`, `from + 1` and so on, below `to`.
-fn counted(alloc: Global, from: u8, to: u8) -> Result<Vec<u8>, AllocError> {
-    let mut bytes = Vec::new(alloc);
-    for byte in from..to {
-        bytes.push(byte)?;
-    }
-    Ok(bytes)
-}
+const TEN: &[u8] = &[0, 1, 2, 3, 4, 5, 6, 7, 8, 9];
 
-// A source of ten bytes that gives `cut` a call, and whose calls `failing` fail.
-fn ten(alloc: Global, cut: usize, failing: &[u64]) -> Result<MemSource, AllocError>
-    requires { 1 ≤ cut }
-{
-    let mut numbers = Vec::new(alloc);
-    numbers.extend_from_slice(failing)?;
-    Ok(MemSource::new(counted(alloc, 0, 10)?, cut, numbers))
+/// The numbers of the calls that fail: of the one call, or of none where it is 0.
+fn only(alloc: Global, call: u64) -> Result<Vec<u64>, AllocError> {
+    let mut calls = Vec::new(alloc);
+    if call > 0 {
+        calls.push(call)?;
+    }
+    Ok(calls)
 }
 
 #[test]
-fn reads_all_within_the_limit(rt: HostRuntime) -> Result<(), Fail> {
+fn reads_to_the_end_or_stops(rt: HostRuntime) -> Result<(), Fail> {
     let alloc = rt.alloc();
-    let whole = counted(alloc, 0, 10)?;
-    for cut in 1..12usize {
-        for limit in [10usize, 11, 1_000_000] {
-            let mut source = ten(alloc, cut, &[])?;
-            let Ok(bytes) = read_all(alloc, &mut source, limit) else {
-                return Err(Fail::from("not read"));
-            };
-            assert_eq!(rt; bytes.as_slice(), whole.as_slice());
+    // the bytes of a call at most, the call that fails, the limit, why it stopped, and the bytes read by then
+    for (cut, failing, limit, stop, taken) in [
+        (1usize, 0, 10, None, 10),
+        (3, 0, 11, None, 10),
+        (11, 0, 1_000_000, None, 10),
+        (1, 0, 0, Some(ReadEnd::TooLong), 1),
+        (11, 0, 0, Some(ReadEnd::TooLong), 1),
+        (1, 0, 9, Some(ReadEnd::TooLong), 10),
+        (4, 0, 9, Some(ReadEnd::TooLong), 10),
+        (11, 0, 9, Some(ReadEnd::TooLong), 10),
+        (4, 1, 10, Some(ReadEnd::Failed), 0),
+        (4, 3, 10, Some(ReadEnd::Failed), 8),
+        (10, 2, 10, Some(ReadEnd::Failed), 10),
+        // two calls find the end, and no third is made
+        (10, 3, 10, None, 10),
+    ] {
+        let mut source = MemSource::new(TEN.to_vec(alloc)?, cut.max(1), only(alloc, failing)?);
+        match read_all(alloc, &mut source, limit) {
+            Ok(bytes) => {
+                assert_eq!(rt; stop, None, "{cut} {failing} {limit}");
+                assert_eq!(rt; bytes.as_slice(), TEN);
+            }
+            Err(end) => {
+                assert_eq!(rt; stop, Some(end), "{cut} {failing} {limit}");
+                let Ok(rest) = read_all(alloc, &mut source, 10) else {
+                    return Err(Fail::from("not read"));
+                };
+                assert_eq!(rt; Some(rest.as_slice()), TEN.get(taken..));
+            }
         }
-        for (limit, next) in [(0usize, 1u8), (9, 10)] {
-            let mut source = ten(alloc, cut, &[])?;
-            let result = read_all(alloc, &mut source, limit);
-            assert!(rt; matches!(result, Err(ReadEnd::TooLong)));
-            // The bytes behind the limit and one more are left.
-            let Ok(rest) = read_all(alloc, &mut source, 10) else {
-                return Err(Fail::from("not read"));
-            };
-            assert_eq!(rt; rest.as_slice(), counted(alloc, next, 10)?.as_slice());
+    }
+    Ok(())
+}
+
+#[test]
+fn writes_all_or_stops(rt: HostRuntime) -> Result<(), Fail> {
+    let alloc = rt.alloc();
+    // the bytes of a call at most, the call that fails, what comes of it, and the bytes written by then
+    for (cut, failing, result, written) in [
+        (1usize, 0, Ok(()), 10),
+        (3, 0, Ok(()), 10),
+        (11, 0, Ok(()), 10),
+        (4, 1, Err(Failed), 0),
+        (4, 3, Err(Failed), 8),
+        (1, 10, Err(Failed), 9),
+        // ten calls write all, and no eleventh is made
+        (1, 11, Ok(()), 10),
+    ] {
+        let mut sink = MemSink::new(alloc, cut.max(1), only(alloc, failing)?);
+        assert_eq!(rt; write_all(&mut sink, TEN), result, "{cut} {failing}");
+        assert_eq!(rt; Some(sink.written()), TEN.get(..written));
+    }
+    Ok(())
+}
+
+/// Takes each piece, and gives `errors` errors before a flush passes.
+#[derive(Drop)]
+struct Flushing {
+    errors: u32,
+    kind: ErrorKind,
+}
+
+impl Write for Flushing {
+    fn write(&mut self, buf: &[u8]) -> std::io::Result<usize> {
+        Ok(buf.len())
+    }
+
+    fn flush(&mut self) -> std::io::Result<()> {
+        if self.errors == 0 {
+            return Ok(());
         }
+        self.errors -= 1;
+        Err(Error::from(self.kind))
     }
-    Ok(())
-}
-
-#[test]
-fn stops_at_a_failed_read(rt: HostRuntime) -> Result<(), Fail> {
-    let alloc = rt.alloc();
-    // Four bytes a call: the third call fails, and the one after it goes on.
-    let mut source = ten(alloc, 4, &[3, 9])?;
-    let result = read_all(alloc, &mut source, 10);
-    assert!(rt; matches!(result, Err(ReadEnd::Failed)));
-    let Ok(rest) = read_all(alloc, &mut source, 10) else {
-        return Err(Fail::from("not read"));
-    };
-    assert_eq!(rt; rest.as_slice(), [8u8, 9].as_slice());
-    Ok(())
-}
-
-#[test]
-fn writes_all_and_stops_at_a_failed_write(rt: HostRuntime) -> Result<(), Fail> {
-    let alloc = rt.alloc();
-    let whole = counted(alloc, 0, 10)?;
-    for cut in 1..12usize {
-        let mut sink = MemSink::new(alloc, cut, Vec::new(alloc));
-        assert_eq!(rt; write_all(&mut sink, whole.as_slice()), Ok(()));
-        assert_eq!(rt; sink.written(), whole.as_slice());
-    }
-    let mut failing = Vec::new(alloc);
-    failing.push(3)?;
-    let mut sink = MemSink::new(alloc, 4, failing);
-    assert_eq!(rt; write_all(&mut sink, whole.as_slice()), Err(Failed));
-    assert_eq!(rt; sink.written(), counted(alloc, 0, 8)?.as_slice());
-    assert_eq!(rt; write_all(&mut sink, &[7, 7]), Ok(()));
-    assert_eq!(rt; sink.written(), [0u8, 1, 2, 3, 4, 5, 6, 7, 7, 7].as_slice());
-    Ok(())
 }
 
 #[test]
 fn moves_bytes_through_std_streams(rt: HostRuntime) -> Result<(), Fail> {
     let alloc = rt.alloc();
-    let input: &[u8] = &[5, 6, 7];
-    let Ok(bytes) = read_all(alloc, &mut StdSource::new(input), 3) else {
+    let Ok(bytes) = read_all(alloc, &mut StdSource::new(TEN), 10) else {
         return Err(Fail::from("not read"));
     };
-    assert_eq!(rt; bytes.as_slice(), [5u8, 6, 7].as_slice());
-    let mut room = [0u8; 2];
+    assert_eq!(rt; bytes.as_slice(), TEN);
+    let mut room = [0u8; 9];
     let mut sink = StdSink::new(&mut room[..]);
-    // There is room for two bytes: the third is a fault.
-    assert_eq!(rt; write_all(&mut sink, bytes.as_slice()), Err(Failed));
+    // There is room for nine bytes: the tenth is a fault.
+    assert_eq!(rt; write_all(&mut sink, TEN), Err(Failed));
+    // A flush that fails is a fault, but for interruptions below a thousand.
+    for (errors, kind, result) in [
+        (1, ErrorKind::Other, Err(Failed)),
+        (999, ErrorKind::Interrupted, Ok(())),
+        (1000, ErrorKind::Interrupted, Err(Failed)),
+    ] {
+        let mut sink = StdSink::new(Flushing { errors, kind });
+        assert_eq!(rt; write_all(&mut sink, TEN), result);
+    }
     let mut streams = StdSink::new(std::io::writer(&rt));
     assert_eq!(rt; write_all(&mut streams, &[]), Ok(()));
     let _ = StdSource::new(rt.reader());

@@ -5,7 +5,7 @@ use Rattle.std.proofs.lemmas.Fmt.{decimal_injective}
 use Rattle.std.proofs.lemmas.List.{append-nil}
 use Rattle.std.specs.Prelude.{codes}
 use Rattle.std.specs.Fmt.{decimal}
-use Rattle.std.specs.Io.KnownBytes.{Appends, Consumes, IsAtEnd}
+use Rattle.std.specs.Io.KnownBytes.{Appends, Consumes}
 use Rattle.std.specs.declared.option.Option.{Option}
 use Rattle.std.specs.declared.option.Option.TheVariants.{Some, None}
 use Rattle.base_types.specs.declared.text.TextFault.{TextFault}
@@ -21,7 +21,7 @@ use Rattle.erlay_cli.specs.declared.command.Command.TheVariants as command
 use Rattle.erlay_cli.specs.declared.status.Status.{Status}
 use Rattle.erlay_cli.specs.declared.status.Status.TheVariants as status
 use Rattle.erlay_cli.specs.Words.{HasForm, Asks}
-use Rattle.erlay_cli.specs.Outside.{Seen, Reads}
+use Rattle.erlay_cli.specs.Outside.{Seen, Reads, IsWholeOrTooLong}
 use Rattle.erlay_cli.specs.Answers.{Answer, Leads, answer_to, decoded, found, made, summed, work_of}
 use Rattle.erlay_cli.specs.Ends.{Ends, Finishes, IsAnswer, IsAnswerTo}
 
@@ -44,13 +44,13 @@ one_form words (command.Make m) (command.Make n) is_m is_n =
     ap command.Make (decimal_injective m n (omega (arith, is_m.1)) (omega (arith, is_n.1)) same)
 
 -- the bytes that were read, where the input told its bytes: all of them, or more than the limit of them
-pub all_or_too_long : (text input : List ℕ) (left : Option (List ℕ)) → Consumes (Some text) left input → IsAtEnd left ⊎ (input_limit < length input)
+pub all_or_too_long : (text input : List ℕ) (left : Option (List ℕ)) → Consumes (Some text) left input → IsWholeOrTooLong input left
     → (text ≡ input) ⊎ ((input_limit < length input) × (input_limit < length text))
 all_or_too_long text input None consumes either = absurd consumes
-all_or_too_long text input (Some rest) consumes (inl ended) = inl (consumes ∙ ap (λ left. input ++ left) ended ∙ append-nil input)
+all_or_too_long text input (Some rest) consumes (inl whole) = inl (consumes ∙ ap (λ left. input ++ left) whole.0 ∙ append-nil input)
 all_or_too_long text input (Some rest) consumes (inr long) =
     let len : length text ≡ length (input ++ rest) = ap length consumes in
-    inr (long, omega (arith, long, simp length-append at len))
+    inr (omega (arith, long), omega (arith, long, simp length-append at len))
 
 -- the answer to an input above the limit does not go by its bytes
 long_answer : (c : Command) (text : List ℕ) → input_limit < length text → answer_to c text ≡ record { status = status.TooLong input_limit; text = line (too_long input_limit) }
@@ -70,7 +70,7 @@ leads_whole c text input end t (inr long) leads =
 module _ (words : List (List ℕ)) (old new : Seen) (c : Command) (text : List ℕ) (form : HasForm words c) (told : old.bytes ≡ Some text) where
   -- an answer that read its input
   answer_read : (end : Status) (t : List ℕ) → Asks words (λ d. Reads old new (λ input. Leads d input end t)) → Leads c text end t
-  answer_read end t (d, asks, (input, consumes, either, leads)) =
+  answer_read end t (d, asks, (input, consumes, either, quiet, leads)) =
       let same = one_form words d c asks form in
       leads_whole c text input end t (all_or_too_long text input new.bytes (rw (← told) consumes) either) (subst (λ (x : Command). Leads x input end t) same leads)
 
@@ -80,27 +80,27 @@ module _ (words : List (List ℕ)) (old new : Seen) (c : Command) (text : List �
   answer_told status.NoSet t answer = answer_read status.NoSet t answer
   answer_told (status.TooLong limit) t answer = answer_read (status.TooLong limit) t answer
   answer_told status.Usage t answer = absurd (answer.0 c form)
-  answer_told status.ReadFault t answer = answer.1
-  answer_told status.OutOfMemory t answer = answer.1
+  answer_told status.ReadFault t answer = answer.2
+  answer_told status.OutOfMemory t answer = answer.2
   answer_told status.WriteFault t answer = absurd answer
 
 -- the end of a call whose text was written whole
 written_whole : (Answer : Status → List ℕ → Type 0) (old new : Seen) (end : Status) (text : List ℕ) → (Answer status.WriteFault text → ⊥)
-    → Answer end text → Appends old.bytes new.bytes text → Ends Answer old new end
-written_whole Answer old new status.WriteFault text none answer wrote = absurd (none answer)
-written_whole Answer old new status.Ok text none answer wrote = (text, answer, wrote)
-written_whole Answer old new status.Usage text none answer wrote = (text, answer, wrote)
-written_whole Answer old new (status.BadInput place k) text none answer wrote = (text, answer, wrote)
-written_whole Answer old new status.NoSet text none answer wrote = (text, answer, wrote)
-written_whole Answer old new (status.TooLong limit) text none answer wrote = (text, answer, wrote)
-written_whole Answer old new status.ReadFault text none answer wrote = (text, answer, wrote)
-written_whole Answer old new status.OutOfMemory text none answer wrote = (text, answer, wrote)
+    → Answer end text → Appends old.bytes new.bytes text → new.faults ≡ old.faults → Ends Answer old new end
+written_whole Answer old new status.WriteFault text none answer wrote quiet = absurd (none answer)
+written_whole Answer old new status.Ok text none answer wrote quiet = (text, answer, wrote, quiet)
+written_whole Answer old new status.Usage text none answer wrote quiet = (text, answer, wrote, quiet)
+written_whole Answer old new (status.BadInput place k) text none answer wrote quiet = (text, answer, wrote, quiet)
+written_whole Answer old new status.NoSet text none answer wrote quiet = (text, answer, wrote, quiet)
+written_whole Answer old new (status.TooLong limit) text none answer wrote quiet = (text, answer, wrote, quiet)
+written_whole Answer old new status.ReadFault text none answer wrote quiet = (text, answer, wrote, quiet)
+written_whole Answer old new status.OutOfMemory text none answer wrote quiet = (text, answer, wrote, quiet)
 
 -- the end of a call that had an answer, and then wrote it
 pub finished : (Answer : Status → List ℕ → Type 0) (old new : Seen) (end : Status) (text : List ℕ) (result : Status) → (Answer status.WriteFault text → ⊥)
     → Answer end text → Finishes end text old new result → Ends Answer old new result
-finished Answer old new end text result none answer (inl (same, wrote)) =
-    subst (λ (r : Status). Ends Answer old new r) (sym same) (written_whole Answer old new end text none answer wrote)
+finished Answer old new end text result none answer (inl (same, wrote, quiet)) =
+    subst (λ (r : Status). Ends Answer old new r) (sym same) (written_whole Answer old new end text none answer wrote quiet)
 finished Answer old new end text result none answer (inr (same, rose, part)) =
     subst (λ (r : Status). Ends Answer old new r) (sym same) (rose, (end, text, answer, part))
 
@@ -142,6 +142,15 @@ pub read_cause : (words : List (List ℕ)) (old new out_old out_new : Seen) (res
     → result ≡ status.ReadFault → Rose old.faults new.faults
 read_cause words old new out_old out_new result ended same =
     let at = subst (λ (r : Status). Ends (IsAnswer words old new) out_old out_new r) same ended in at.1.0.2
+
+-- a run that ended with neither a failed read nor a failed write had no failed read
+pub no_read_failed : (words : List (List ℕ)) (old new out_old out_new : Seen) (result : Status) → Ends (IsAnswer words old new) out_old out_new result
+    → result ≢ status.ReadFault → result ≢ status.WriteFault → new.faults ≡ old.faults
+no_read_failed words old new out_old out_new status.ReadFault ended no_read no_write = absurd (no_read refl)
+no_read_failed words old new out_old out_new status.WriteFault ended no_read no_write = absurd (no_write refl)
+no_read_failed words old new out_old out_new status.Usage ended no_read no_write = ap (λ (s : Seen). s.faults) ended.1.1
+no_read_failed words old new out_old out_new status.OutOfMemory ended no_read no_write = ended.1.0.2
+no_read_failed words old new out_old out_new end ended no_read no_write = ended.1.2.3
 
 -- the call ends as the command's answer says, or memory ran out
 pub ends_as_answered : (c : Command) (text : List ℕ) (old new : Seen) (result : Status) → Ends (IsAnswerTo c text) old new result

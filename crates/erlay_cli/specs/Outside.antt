@@ -1,7 +1,8 @@
 -- What the program sees of the outside before and after a call.
-use Rattle.std.specs.Prelude.{ℕ, ◌<◌, ◌⊎◌, List, length}
+use Rattle.std.specs.Prelude.{◌≡◌, ℕ, ◌+◌, ◌≤◌, ◌⊎◌, List, length}
 use Rattle.std.specs.Io.KnownBytes.{Consumes, IsAtEnd}
 use Rattle.std.specs.declared.option.Option.{Option}
+use Rattle.erlay_base.specs.Moves.{TakesCount}
 use Rattle.text_rules.specs.Limits.{input_limit}
 
 -- a source or a sink: the bytes left or written, where it tells them, and its count of faults
@@ -12,7 +13,15 @@ pub record Seen : Type 0 where
 abbrev pub seen : {S : Type 0} → (S → Option (List ℕ)) → (S → ℕ) → S → Seen
 seen bytes faults s = record { bytes = bytes s; faults = faults s }
 
--- what was read is of this kind: all bytes that were left or, where those are more than the limit, more than the
--- limit of them
+-- the bytes are all that there were, within the limit, or one more than the limit; those behind them are left
+abbrev pub IsWholeOrTooLong : List ℕ → Option (List ℕ) → Type 0
+IsWholeOrTooLong input left = (IsAtEnd left × (length input ≤ input_limit)) ⊎ (length input ≡ input_limit + 1)
+
+-- what was read is of this kind: all bytes that were left or, where those are more than the limit, one more than the
+-- limit of them; and no read failed
 abbrev pub Reads : Seen → Seen → (List ℕ → Type 0) → Type 0
-Reads old new P = (input : List ℕ) × Consumes old.bytes new.bytes input × (IsAtEnd new.bytes ⊎ (input_limit < length input)) × P input
+Reads old new P = (input : List ℕ) × Consumes old.bytes new.bytes input × IsWholeOrTooLong input new.bytes × (new.faults ≡ old.faults) × P input
+
+-- at most this many bytes were read
+abbrev pub ReadsAtMost : Seen → Seen → ℕ → Type 0
+ReadsAtMost old new limit = TakesCount old.bytes new.bytes (λ n. n ≤ limit)

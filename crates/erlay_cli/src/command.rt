@@ -60,36 +60,3 @@ pub fn command_of(words: &[String]) -> Option<Command>
         _ => None,
     }
 }
-
-#[cfg(test)]
-mod tests {
-    use super::*;
-    use std::alloc::{AllocError, Global};
-
-    fn words_of(alloc: Global, line: &str) -> Result<Vec<String>, AllocError> {
-        let mut words = Vec::new(alloc);
-        for word in line.split_ascii_whitespace() {
-            words.push(word.to_string(alloc)?)?;
-        }
-        Ok(words)
-    }
-
-    #[test]
-    fn words_ask_for_commands(rt: HostRuntime) {
-        for (line, want) in [
-            ("make 3", Some(Command::Make(3))),
-            ("make 0", None),
-            ("make 4097", None),
-            ("make 01", None),
-            ("make", None),
-            ("", None),
-            ("merge", Some(Command::Merge)),
-            ("merge 2", None),
-            ("decode", Some(Command::Decode)),
-            ("decode 3", None),
-        ] {
-            let words = words_of(rt.alloc(), line).expect(&rt, "memory");
-            assert_eq!(rt; command_of(words.as_slice()), want, "at {line}");
-        }
-    }
-}

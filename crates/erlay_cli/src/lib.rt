@@ -8,13 +8,13 @@ mod laws;
 mod make;
 mod merge;
 mod number;
+mod program;
 mod report;
 mod sketch_lines;
 mod status;
-#[cfg(test)]
-mod tests;
 mod top;
 
 pub use laws::differences_are_decoded;
+pub use program::exit_code;
 pub use status::Status;
-pub use top::{run, stopped};
+pub use top::run;

@@ -15,29 +15,3 @@ pub fn decimal_of(text: &str) -> Option<u64>
     }
     text.parse().ok()
 }
-
-#[cfg(test)]
-mod tests {
-    use super::*;
-
-    #[test]
-    fn texts_spell_numbers(rt: HostRuntime) {
-        for (text, want) in [
-            ("0", Some(0)),
-            ("1", Some(1)),
-            ("4096", Some(4096)),
-            ("18446744073709551615", Some(u64::MAX)),
-            ("18446744073709551616", None),
-            ("", None),
-            ("00", None),
-            ("01", None),
-            ("+1", None),
-            ("-1", None),
-            (" 1", None),
-            ("1 ", None),
-            ("1a", None),
-        ] {
-            assert_eq!(rt; decimal_of(text), want, "at {text}");
-        }
-    }
-}

@@ -12,9 +12,7 @@ use field_core::{Field, Gf32};
 use sketch_bytes::to_line;
 use sketch_core::Sketch;
 use std::alloc::Global;
-
-/// The greatest number of bytes that a command reads from its input.
-pub const INPUT_LIMIT: usize = 67_108_864;
+use text_rules::INPUT_LIMIT;
 
 /// The text of a command's answer, and its status.
 #[derive(Drop)]

@@ -1,6 +1,6 @@
 //! The top call.
 
-ghost use Rattle.std.specs.Prelude.{◌≡◌, ◌⊎◌, ◌≤◌, ℕ, List, IfOk, IfErr, Some, map};
+ghost use Rattle.std.specs.Prelude.{◌≡◌, ◌≢◌, ◌⊎◌, ◌≤◌, ℕ, List, IfOk, IfErr, Some, map};
 ghost use Rattle.std.specs.String.{string_bytes};
 ghost use Rattle.erlay_base.specs.Causes.{Rose};
 ghost use Rattle.line_rules.specs.Lines.{line};
@@ -16,10 +16,11 @@ use crate::command::{Command, command_of};
 use crate::decode::decode;
 use crate::make::make;
 use crate::merge::merge;
-use crate::report::{INPUT_LIMIT, Report, Stop};
+use crate::report::{Report, Stop};
 use crate::status::Status;
 use erlay_base::{ReadEnd, Sink, Source, read_all, write_all};
 use std::alloc::Global;
+use text_rules::INPUT_LIMIT;
 
 /// Does what the words of the command line ask for, reads the input if the command reads it, and writes one text.
 pub fn run<I: Source, O: Sink>(
@@ -41,9 +42,11 @@ pub fn run<I: Source, O: Sink>(
     ensures formless { IsFormless (map string_bytes words.now) → (result ≡ Status.Usage) ⊎ (result ≡ Status.WriteFault) }
     ensures untouched { IsFormless (map string_bytes words.now) → input.new ≡ input.old }
 
-    // A fault of the outside comes only where its count rose, and no count falls.
+    // A fault of the outside comes exactly where its count rose, and no count falls. A failed write hides a failed read.
     ensures read_fault { result ≡ Status.ReadFault → Rose (I.faults input.old) (I.faults input.new) }
+    ensures no_read_fault { result ≢ Status.ReadFault → result ≢ Status.WriteFault → I.faults input.new ≡ I.faults input.old }
     ensures write_fault { result ≡ Status.WriteFault → Rose (O.faults output.old) (O.faults output.new) }
+    ensures no_write_fault { result ≢ Status.WriteFault → O.faults output.new ≡ O.faults output.old }
     ensures later { (I.faults input.old ≤ I.faults input.new) × (O.faults output.old ≤ O.faults output.new) }
 
     // With a sound input and no fault of the outside, nothing but want of memory keeps the command from its work.
@@ -100,6 +103,7 @@ fn work(alloc: Global, command: Command, input: &[u8]) -> Result<Report, Stop>
 /// Writes the text. The status is `end`, unless a write fails.
 fn finish<O: Sink>(output: &mut O, end: Status, text: &[u8]) -> Status
     ensures finishes { Finishes end text.now (seen O.written O.faults output.old) (seen O.written O.faults output.new) result }
+    ensures no_write_fault { result ≢ Status.WriteFault → O.faults output.new ≡ O.faults output.old }
     ensures later { O.faults output.old ≤ O.faults output.new }
 {
     match write_all(output, text) {

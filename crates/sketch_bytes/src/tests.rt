@@ -124,3 +124,22 @@ fn capacities_are_1_to_4096(rt: HostRuntime) {
         );
     }
 }
+
+#[test]
+fn faults_have_texts(rt: HostRuntime) {
+    for (fault, want) in [
+        (
+            BytesFault::RaggedLength(6),
+            "a sketch of 6 bytes, which is no multiple of 4",
+        ),
+        (BytesFault::EmptySketch, "a sketch of no bytes"),
+        (
+            BytesFault::TooWide(16388),
+            "a sketch of 16388 bytes, which is above 16384",
+        ),
+        (BytesFault::OutOfMemory, "out of memory"),
+    ] {
+        let text = format!(in rt.alloc(); "{fault}").expect(&rt, "memory");
+        assert_eq!(rt; text.as_str(), want);
+    }
+}

@@ -98,3 +98,17 @@ fn a_decoding_has_a_set_or_none(rt: HostRuntime) {
     let none: Decoded<Gf32> = Decoded::NoSet;
     assert!(rt; matches!(&none, Decoded::NoSet));
 }
+
+#[test]
+fn faults_have_texts(rt: HostRuntime) {
+    for (fault, want) in [
+        (
+            SketchFault::CapacityOutOfRange(4097),
+            "a sketch has 1 to 4096 sums, and not 4097",
+        ),
+        (SketchFault::OutOfMemory, "out of memory"),
+    ] {
+        let text = format!(in rt.alloc(); "{fault}").expect(&rt, "memory");
+        assert_eq!(rt; text.as_str(), want);
+    }
+}

@@ -13,5 +13,5 @@ loop-at-preserved g c =
     record {
       within = grind (arith, common_steps);
       done = subst (Appends (g.S.Sink.written c.args.sink.now) (g.S.Sink.written c.write.new.self)) (take_further c.args.bytes.now c.loop-at.at c.in_ok-at.field-0) (Appends-trans _ _ _ _ _ first second);
-      later = omega (arith, c.in_ok-at.ensures.cause.later);
+      same = omega (arith, c.in_ok-at.ensures.cause.success);
     }

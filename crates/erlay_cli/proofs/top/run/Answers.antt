@@ -2,7 +2,7 @@ use Rattle.std.proofs.Common.{map}
 use Rattle.std.specs.String.{string_bytes}
 use Rattle.erlay_cli.specs.Outside.{seen}
 use Rattle.erlay_cli.specs.Ends.{IsAnswer, IsAnswerTo}
-use Rattle.erlay_cli.proofs.Endings.{answer_told, ends_as_answered, finished, no_write_fault, read_cause}
+use Rattle.erlay_cli.proofs.Endings.{answer_told, ends_as_answered, finished, no_read_failed, no_write_fault, read_cause}
 use Rattle.erlay_cli.proofs.top.run.Goals as goal
 
 pub returns-in-Ok-clause-ends : goal.returns-in-Ok-clause-ends
@@ -44,3 +44,13 @@ returns-in-Err-clause-complete g c command text form told sound no_read no_write
     (seen g.O.Sink.written g.O.Sink.faults c.args.output.now) (seen g.O.Sink.written g.O.Sink.faults c.finish-in-Err.new.output) c.finish-in-Err.result (returns-in-Err-clause-ends g c) in
     ends_as_answered command text (seen g.O.Sink.written g.O.Sink.faults c.args.output.now) (seen g.O.Sink.written g.O.Sink.faults c.finish-in-Err.new.output) c.finish-in-Err.result
     (returns-in-Err-clause-told g c command text form told) (λ failed. no_read (cause failed)) no_write
+
+pub returns-in-Ok-clause-no_read_fault : goal.returns-in-Ok-clause-no_read_fault
+returns-in-Ok-clause-no_read_fault g c no_read no_write =
+    no_read_failed (map string_bytes c.args.words.now) (seen g.I.Source.left g.I.Source.faults c.args.input.now) (seen g.I.Source.left g.I.Source.faults c.answer.new.input)
+    (seen g.O.Sink.written g.O.Sink.faults c.args.output.now) (seen g.O.Sink.written g.O.Sink.faults c.finish.new.output) c.finish.result (returns-in-Ok-clause-ends g c) no_read no_write
+
+pub returns-in-Err-clause-no_read_fault : goal.returns-in-Err-clause-no_read_fault
+returns-in-Err-clause-no_read_fault g c no_read no_write =
+    no_read_failed (map string_bytes c.args.words.now) (seen g.I.Source.left g.I.Source.faults c.args.input.now) (seen g.I.Source.left g.I.Source.faults c.answer.new.input)
+    (seen g.O.Sink.written g.O.Sink.faults c.args.output.now) (seen g.O.Sink.written g.O.Sink.faults c.finish-in-Err.new.output) c.finish-in-Err.result (returns-in-Err-clause-ends g c) no_read no_write

@@ -1,0 +1,50 @@
+//! The program from its arguments to its exit code.
+
+ghost use Rattle.std.specs.Prelude.{◌≡◌, ◌≢◌, [], IfOk, IfErr, drop, map};
+ghost use Rattle.std.specs.String.{string_bytes};
+ghost use Rattle.std.specs.IoError.{error_kind};
+ghost use Rattle.line_rules.specs.Lines.{line};
+ghost use Rattle.text_rules.specs.Faults.{out_of_memory};
+ghost use Rattle.erlay_cli.specs.Outside.{seen};
+ghost use Rattle.erlay_cli.specs.Ends.{Ends, Finishes, IsAnswer, IsCodeOf};
+
+use crate::status::Status;
+use crate::top::{run, stopped};
+use erlay_base::{Sink, Source};
+use std::alloc::Global;
+use std::io::{self, ErrorKind};
+
+/// Runs the program, and answers its exit code. The first argument is the program's own name, and the words stand
+/// behind it. Where an argument isn't text the program runs with no words, so it writes `usage`; where memory ran out
+/// for the arguments, it says so.
+pub fn exit_code<I: Source, O: Sink>(
+    alloc: Global,
+    arguments: io::Result<Vec<String>>,
+    input: &mut I,
+    output: &mut O,
+) -> u8
+    ensures ok { IfOk arguments (λ list. IsCodeOf (Ends
+        (IsAnswer (map string_bytes (drop 1 list.items)) (seen I.left I.faults input.old) (seen I.left I.faults input.new))
+        (seen O.written O.faults output.old) (seen O.written O.faults output.new)) result) }
+    ensures no_text { IfErr arguments (λ error. error_kind error ≢ ErrorKind.OutOfMemory → IsCodeOf (Ends
+        (IsAnswer [] (seen I.left I.faults input.old) (seen I.left I.faults input.new))
+        (seen O.written O.faults output.old) (seen O.written O.faults output.new)) result) }
+    ensures no_memory { IfErr arguments (λ error. error_kind error ≡ ErrorKind.OutOfMemory → IsCodeOf
+        (Finishes Status.OutOfMemory (line out_of_memory) (seen O.written O.faults output.old) (seen O.written O.faults output.new)) result) }
+{
+    match arguments {
+        Ok(arguments) => run(alloc, words_of(arguments.as_slice()), input, output).code(),
+        Err(error) if error.kind() == ErrorKind::OutOfMemory => stopped(output).code(),
+        Err(_) => run(alloc, &[], input, output).code(),
+    }
+}
+
+/// The arguments behind the program's own name.
+fn words_of(arguments: &[String]) -> &[String]
+    ensures { result.now ≡ drop 1 arguments.now }
+{
+    match arguments {
+        [_, words @ ..] => words,
+        [] => &[],
+    }
+}

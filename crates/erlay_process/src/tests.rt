@@ -1,0 +1,330 @@
+//! The program from bytes to bytes, over fakes of its input and its output.
+
+use erlay_base::{MemSink, MemSource};
+use erlay_cli::exit_code;
+use std::alloc::{AllocError, Global};
+use std::io::{Error, ErrorKind};
+use std::test::Fail;
+
+/// How many bytes a call moves at most, and the number of the read and of the write that fails, 0 for none.
+#[derive(Clone, Copy)]
+struct Streams {
+    cut: usize,
+    failing_read: u64,
+    failing_write: u64,
+}
+
+/// The numbers of the calls that fail.
+fn calls_of(alloc: Global, failing: u64) -> Result<Vec<u64>, AllocError> {
+    let mut calls = Vec::new(alloc);
+    if failing > 0 {
+        calls.push(failing)?;
+    }
+    Ok(calls)
+}
+
+/// The arguments: the program's name, and the words, parted by single blanks.
+fn arguments_of(alloc: Global, words: &str) -> Result<Vec<String>, AllocError> {
+    let mut arguments = vec![in alloc; "erlay".to_string(alloc)?]?;
+    if !words.is_empty() {
+        for word in words.split(' ') {
+            arguments.push(word.to_string(alloc)?)?;
+        }
+    }
+    Ok(arguments)
+}
+
+/// The exit code of the program for these words and this input, and the text that it wrote.
+fn outcome(
+    alloc: Global,
+    words: &str,
+    bytes: &[u8],
+    streams: Streams,
+) -> Result<(u8, String), Fail> {
+    let cut = streams.cut.max(1);
+    let failing_reads = calls_of(alloc, streams.failing_read)?;
+    let failing_writes = calls_of(alloc, streams.failing_write)?;
+    let mut input = MemSource::new(bytes.to_vec(alloc)?, cut, failing_reads);
+    let mut output = MemSink::new(alloc, cut, failing_writes);
+    let arguments = Ok(arguments_of(alloc, words)?);
+    let code = exit_code(alloc, arguments, &mut input, &mut output);
+    let Ok(text) = str::from_utf8(output.written()) else {
+        return Err(Fail::from("not text"));
+    };
+    Ok((code, text.to_string(alloc)?))
+}
+
+/// Words and an input, and what they lead to: an exit code and a text.
+type Case = (&'static str, &'static [u8], u8, &'static str);
+
+const CASES: &[Case] = &[
+    ("make 3", b"00000001\n", 0, "010000000100000001000000\n"),
+    (
+        "make 4",
+        b"00000001\n00000002\n00000003\n",
+        0,
+        "0000000006000000120000007e000000\n",
+    ),
+    ("make 2", b"80000000\n", 0, "00000080726d0420\n"),
+    ("make 2", b"", 0, "0000000000000000\n"),
+    // CR and LF, empty lines, upper case, and no LF at the end
+    ("make 1", b"\r\n\n0000000A\r\n\n0000000b", 0, "01000000\n"),
+    (
+        "merge",
+        b"0300000009000000\n0200000008000000\n",
+        0,
+        "0100000001000000\n",
+    ),
+    (
+        "merge",
+        b"\n0300000009000000\r\n\r\n0300000009000000",
+        0,
+        "0000000000000000\n",
+    ),
+    ("merge", b"0A00000F\n0000000f", 0, "0a000000\n"),
+    ("decode", b"0300000009000000\n", 0, "00000001\n00000002\n"),
+    (
+        "decode",
+        b"0000000006000000120000007e000000",
+        0,
+        "00000001\n00000002\n00000003\n",
+    ),
+    ("decode", b"00000080726d0420\n", 0, "80000000\n"),
+    // one sum: of 3, and of 1 and 2 as well
+    ("decode", b"03000000\n", 0, "00000003\n"),
+    // CR and LF, empty lines, upper case
+    ("decode", b"\r\n\n0A000000\r\n\n", 0, "0000000a\n"),
+    // the first two sums of 1, 2 and 3
+    ("decode", b"0000000006000000\n", 3, "no set\n"),
+    // x ^ 3 + x + 1 has no root
+    ("decode", b"00000000010000000100000001000000", 3, "no set\n"),
+    // one fault of elements
+    ("make 3", b"00000000", 2, "bad input 1: zero\n"),
+    (
+        "make 3",
+        b"00000005\n00000005\n",
+        2,
+        "bad input 2: repeated\n",
+    ),
+    (
+        "make 3",
+        b"0000000a\n0000000A\n",
+        2,
+        "bad input 2: repeated\n",
+    ),
+    ("make 3", b"123", 2, "bad input 1: digit count\n"),
+    ("make 3", b"00000001\r", 2, "bad input 1: digit count\n"),
+    ("make 3", b"0000000g\n", 2, "bad input 1: bad digit\n"),
+    ("make 3", b"0000001\r\r\n", 2, "bad input 1: bad digit\n"),
+    (
+        "make 3",
+        b"\xc3\xa9\xc3\xa9\xc3\xa9\xc3\xa9\n",
+        2,
+        "bad input 1: bad digit\n",
+    ),
+    // several of them, in each order
+    (
+        "make 3",
+        b"\n00000005\r\n\n00000005\n00000000\n123\n",
+        2,
+        "bad input 4: repeated\n",
+    ),
+    (
+        "make 3",
+        b"00000005\n00000000\n00000005\n",
+        2,
+        "bad input 2: zero\n",
+    ),
+    (
+        "make 3",
+        b"00000005\n123\n00000005\n0000000g",
+        2,
+        "bad input 2: digit count\n",
+    ),
+    (
+        "make 3",
+        b"000000\xff0\n00000000\n",
+        2,
+        "bad input 1: bad digit\n",
+    ),
+    // the first fault of two sketches
+    ("merge", b"", 2, "bad input 0: line count\n"),
+    ("merge", b"\r", 2, "bad input 1: line count\n"),
+    ("merge", b"x\n\n", 2, "bad input 1: line count\n"),
+    ("merge", b"x\ny\nz", 2, "bad input 3: line count\n"),
+    ("merge", b"\n0300000\n03\n", 2, "bad input 2: odd digits\n"),
+    ("merge", b"03000g00\n030\n", 2, "bad input 1: bad digit\n"),
+    (
+        "merge",
+        b"03000000\n030000000900\n",
+        2,
+        "bad input 2: ragged length 6\n",
+    ),
+    (
+        "merge",
+        b"010000000100000001000000\n\n0300000009000000\n",
+        2,
+        "bad input 3: lengths differ\n",
+    ),
+    // the first fault of one sketch
+    ("decode", b"", 2, "bad input 0: line count\n"),
+    (
+        "decode",
+        b"03000000\n\n0300000009000000\n",
+        2,
+        "bad input 2: line count\n",
+    ),
+    ("decode", b"x\ny\nz", 2, "bad input 3: line count\n"),
+    ("decode", b"0300000\n", 2, "bad input 1: odd digits\n"),
+    ("decode", b"\n030000x\r\n", 2, "bad input 2: odd digits\n"),
+    ("decode", b"\r\n0300x0\n", 2, "bad input 2: bad digit\n"),
+    (
+        "decode",
+        b"030000000900",
+        2,
+        "bad input 1: ragged length 6\n",
+    ),
+];
+
+#[test]
+fn words_and_inputs_have_answers(rt: HostRuntime) -> Result<(), Fail> {
+    for (words, input, code, text) in CASES {
+        for cut in [1, 65536] {
+            let streams = Streams {
+                cut,
+                failing_read: 0,
+                failing_write: 0,
+            };
+            let (ended, wrote) = outcome(rt.alloc(), words, input, streams)?;
+            assert_eq!(rt; wrote.as_str(), *text, "{words}: {ended}");
+            assert_eq!(rt; ended, *code, "{words}");
+        }
+    }
+    Ok(())
+}
+
+/// Words, an input, the read and the write that fails, one byte a call, an exit code and a text.
+type Failing = (&'static str, &'static str, u64, u64, u8, &'static str);
+
+const FAILING: &[Failing] = &[
+    ("make 1", "00000001\n", 1, 0, 5, "read fault\n"),
+    ("make 1", "00000001\n", 2, 0, 5, "read fault\n"),
+    // The tenth read is the one that finds the end, and no further one is made.
+    ("make 1", "00000001\n", 10, 0, 5, "read fault\n"),
+    ("make 1", "00000001\n", 11, 0, 0, "01000000\n"),
+    ("make 1", "", 0, 1, 6, ""),
+    ("make 1", "00000001\n", 0, 3, 6, "01"),
+    ("make 1", "00000001\n", 0, 9, 6, "01000000"),
+    // Nine writes write the text, and no further one is made.
+    ("make 1", "00000001\n", 0, 10, 0, "01000000\n"),
+    ("make 1", "1\n", 0, 1, 6, ""),
+    ("make 1", "00000001\n", 1, 1, 6, ""),
+    ("make 1", "00000001\n", 1, 5, 6, "read"),
+    // The empty set has no lines, and none is written.
+    ("decode", "00000000", 0, 1, 0, ""),
+    // Words without form read nothing.
+    ("", "", 1, 0, 1, "usage\n"),
+    ("make", "", 1, 0, 1, "usage\n"),
+    ("make ", "", 1, 0, 1, "usage\n"),
+    ("make 0", "", 1, 0, 1, "usage\n"),
+    ("make 00", "", 1, 0, 1, "usage\n"),
+    ("make 01", "", 1, 0, 1, "usage\n"),
+    ("make 4097", "", 1, 0, 1, "usage\n"),
+    ("make 18446744073709551615", "", 1, 0, 1, "usage\n"),
+    ("make 18446744073709551617", "", 1, 0, 1, "usage\n"),
+    ("make +1", "", 1, 0, 1, "usage\n"),
+    ("make -1", "", 1, 0, 1, "usage\n"),
+    ("make \t1", "", 1, 0, 1, "usage\n"),
+    ("make 1\t", "", 1, 0, 1, "usage\n"),
+    ("make 1a", "", 1, 0, 1, "usage\n"),
+    ("make x", "", 1, 0, 1, "usage\n"),
+    ("make 3 3", "", 1, 0, 1, "usage\n"),
+    ("merge 2", "", 1, 0, 1, "usage\n"),
+    ("merge merge", "", 1, 0, 1, "usage\n"),
+    ("decode 3", "", 1, 0, 1, "usage\n"),
+    ("decoded", "", 1, 0, 1, "usage\n"),
+    ("Make 3", "", 1, 0, 1, "usage\n"),
+];
+
+#[test]
+fn failed_calls_end_the_run(rt: HostRuntime) -> Result<(), Fail> {
+    let alloc = rt.alloc();
+    for (words, input, failing_read, failing_write, code, text) in FAILING {
+        let streams = Streams {
+            cut: 1,
+            failing_read: *failing_read,
+            failing_write: *failing_write,
+        };
+        let (ended, wrote) = outcome(alloc, words, input.as_bytes(), streams)?;
+        assert_eq!(rt; wrote.as_str(), *text, "{words}: {ended}");
+        assert_eq!(rt; ended, *code, "{words}");
+    }
+    // Arguments that aren't text, and arguments for which memory ran out.
+    for (kind, code, text) in [
+        (ErrorKind::InvalidData, 1, "usage\n"),
+        (ErrorKind::OutOfMemory, 11, "out of memory\n"),
+    ] {
+        let mut input = MemSource::new(Vec::new(alloc), 1, calls_of(alloc, 1)?);
+        let mut output = MemSink::new(alloc, 1, Vec::new(alloc));
+        let arguments = Err(Error::from(kind));
+        let ended = exit_code(alloc, arguments, &mut input, &mut output);
+        assert_eq!(rt; ended, code);
+        assert_eq!(rt; output.written(), text.as_bytes());
+    }
+    Ok(())
+}
+
+/// Words, an input of so many zeros and what stands behind them, an exit code, a text, and its length.
+type Wide = (&'static str, usize, &'static [u8], u8, &'static str, usize);
+
+const WIDE: &[Wide] = &[
+    ("decode", 8_192, b"", 0, "", 0),
+    ("make 4096", 0, b"", 0, "00000000", 32_769),
+    // the widest sketch, and one sum more
+    (
+        "merge",
+        32_768,
+        b"\n00000000",
+        2,
+        "bad input 2: lengths differ\n",
+        28,
+    ),
+    (
+        "merge",
+        32_776,
+        b"\n00",
+        2,
+        "bad input 1: too wide 16388\n",
+        28,
+    ),
+    (
+        "decode",
+        32_776,
+        b"",
+        2,
+        "bad input 1: too wide 16388\n",
+        28,
+    ),
+    // one byte more than the limit of the input
+    ("make 1", 67_108_865, b"", 10, "too long 67108864\n", 18),
+    ("merge", 67_108_865, b"", 10, "too long 67108864\n", 18),
+];
+
+#[test]
+fn the_largest_inputs_and_outputs(rt: HostRuntime) -> Result<(), Fail> {
+    let alloc = rt.alloc();
+    let streams = Streams {
+        cut: 65536,
+        failing_read: 0,
+        failing_write: 0,
+    };
+    for (words, zeros, behind, code, start, len) in WIDE {
+        let mut bytes = vec![in alloc; b'0'; *zeros]?;
+        bytes.extend_from_slice(behind)?;
+        let (ended, wrote) = outcome(alloc, words, bytes.as_slice(), streams)?;
+        assert_eq!(rt; ended, *code, "{words}");
+        assert_eq!(rt; wrote.as_str().len(), *len, "{words}");
+        assert!(rt; wrote.as_str().starts_with(*start), "{words}");
+    }
+    Ok(())
+}
