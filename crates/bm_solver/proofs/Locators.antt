@@ -1,7 +1,7 @@
 -- The coefficients of a recurrence, read out of its polynomial.
 use Rattle.std.proofs.Common.{◌≡◌, ◌≢◌, ◌⊎◌, inl, inr, ℕ, zero, suc, ◌+◌, ◌-◌, ◌^◌, ◌<◌, ◌≤◌, List, ◌∷◌, ◌++◌, length, replicate, reverse, refl, sym, ap, ◌∙◌, arith}
 use Rattle.std.proofs.lemmas.List.{ext_get_or, get_or_past, get_or_append_left, get_or-append_right, get_or-replicate, get_or-reverse, length-append, length-replicate, length-reverse, reverse-reverse}
-use Rattle.sketch_rules.specs.Ops.{Ops, IsRing}
+use Rattle.field_rules.specs.Ops.{Ops, IsRing}
 use Rattle.poly_rules.specs.Polynomials.{coefficient, Same, IsTrimmed, IsMonic, degree}
 use Rattle.poly_laws.proofs.Remainders.{trimmed-same}
 use Rattle.recurrence_laws.proofs.Monic.{monic_form}

@@ -1,6 +1,6 @@
 -- A recurrence as its length and the polynomial 1 + c_1 z + .. + c_L z^L.
 use Rattle.std.specs.Prelude.{◌≡◌, ℕ, zero, suc, ◌+◌, ◌^◌, ◌<◌, ◌≤◌, List, [], ◌∷◌, length}
-use Rattle.sketch_rules.specs.Ops.{Ops}
+use Rattle.field_rules.specs.Ops.{Ops}
 use Rattle.poly_rules.specs.Polynomials.{coefficient}
 
 -- the n coefficients from that of z^i on

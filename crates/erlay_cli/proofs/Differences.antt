@@ -2,14 +2,14 @@
 use Rattle.std.proofs.Common.{◌≡◌, inl, inr, ℕ, ◌^◌, ◌<◌, ◌≤◌, List, [], ◌∷◌, ◌++◌, length, get_or, map, sym, ap, subst, ◌∙◌, arith, length-append}
 use Rattle.std.specs.List.{All, Contains}
 use Rattle.std.proofs.lemmas.List.Elements.{Contains-get_or}
-use Rattle.sketch_rules.specs.Ops.{sketch_by}
-use Rattle.sketch_rules.specs.Elements.{numbers}
+use Rattle.field_rules.specs.Elements.{numbers}
+use Rattle.sketch_rules.specs.PowerSums.{sketch_by}
 use Rattle.sketch_rules.specs.Sets.{difference}
 use Rattle.sketch_rules.specs.Sketches.{IsCapacity, digits_of, merged, sketch_of}
 use Rattle.sketch_rules.specs.Answers.{Answer as SketchAnswer}
+use Rattle.field_laws.proofs.NumberedLists.{elements_of}
 use Rattle.sketch_laws.proofs.Differences.{length-sketch_at, of_difference, difference_answers}
 use Rattle.sketch_laws.proofs.Merging.{merged-sketches}
-use Rattle.sketch_laws.proofs.NumberedLists.{elements_of}
 use Rattle.sketch_laws.proofs.Rising.{Rises-from_AllPairs}
 use Rattle.sketch_laws.proofs.Sets.{has-from_Contains, Contains-from_has, difference-from, difference-rises}
 use Rattle.sketch_laws.proofs.SketchNumbers.{sketch_by-numbers}
