@@ -1,7 +1,7 @@
 -- The coefficients of a recurrence, read from its monic form.
 use Rattle.std.proofs.Common.{◌≡◌, ◌≢◌, ℕ, ◌≤◌, List, [], ◌∷◌, length, drop, reverse, sym, ap, ◌∙◌, arith}
 use Rattle.std.proofs.lemmas.List.{get_or-reverse, length-reverse, reverse-reverse}
-use Rattle.sketch_rules.specs.Ops.{Ops}
+use Rattle.field_rules.specs.Ops.{Ops}
 use Rattle.poly_rules.specs.Polynomials.{coefficient, Same, IsTrimmed, IsMonic, degree}
 use Rattle.poly_laws.proofs.Remainders.{trimmed-same}
 use Rattle.bm_solver.specs.Locators.{coefficients_of}

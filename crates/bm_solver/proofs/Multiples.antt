@@ -2,8 +2,8 @@
 use Rattle.std.proofs.Common.{◌≡◌, ℕ, ◌+◌, ◌≤◌, List, [], ◌∷◌, ◌++◌, length, take, drop, replicate, refl, sym, ap, ◌∙◌, arith, length-drop}
 use Rattle.std.proofs.lemmas.List.{take-append-drop, length-take-le, length-map}
 use borrow.Rule.Slice.PartMut.{mid_of, put_mid}
-use Rattle.sketch_rules.specs.Ops.{Ops, IsRing}
-use Rattle.sketch_rules.specs.Fields.{with_multiple}
+use Rattle.field_rules.specs.Ops.{Ops, IsRing}
+use Rattle.field_rules.specs.Fields.{with_multiple}
 use Rattle.poly_rules.specs.Polynomials.{sum_of, scaled}
 use Rattle.poly_laws.proofs.Sums.{sum_none}
 use Rattle.poly_laws.proofs.Division.{with_multiple-sum}

@@ -1,7 +1,7 @@
 -- The steps of the search, by the numbers that the code has.
 use Rattle.std.proofs.Common.{◌≡◌, ℕ, ◌+◌, ◌-◌, ◌<◌, ◌≤◌, List, ◌++◌, length, take, drop, replicate, sym, ap, subst, ◌∙◌, arith}
-use Rattle.sketch_rules.specs.Ops.{Ops, IsRing}
-use Rattle.sketch_rules.specs.Fields.{dot_of}
+use Rattle.field_rules.specs.Ops.{Ops, IsRing}
+use Rattle.field_rules.specs.Fields.{dot_of}
 use Rattle.poly_rules.specs.Polynomials.{degree, sum_of, scaled}
 use Rattle.recurrence_laws.specs.Solving.{IsSolving}
 use Rattle.recurrence_laws.proofs.Applied.{dot_of-take}

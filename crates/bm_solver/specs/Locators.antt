@@ -1,6 +1,6 @@
 -- A recurrence by its polynomial 1 + c_1 z + .. + c_L z^L and its monic form z^L + c_1 z^(L-1) + .. + c_L.
 use Rattle.std.specs.Prelude.{List, drop, reverse}
-use Rattle.sketch_rules.specs.Ops.{Ops}
+use Rattle.field_rules.specs.Ops.{Ops}
 use Rattle.poly_rules.specs.Polynomials.{IsMonic, Same, degree}
 
 -- c_1, .., c_L, read from the coefficients c_L, .., c_1, 1 of the monic form

@@ -2,7 +2,7 @@
 
 ghost use Rattle.std.specs.Prelude.{◌≡◌, ◌≢◌, ◌+◌, ◌*◌, ◌<◌, ◌≤◌, List, ◌∷◌, ◌++◌, length, replicate, reverse, IfOk};
 ghost use Rattle.std.specs.List.{All, AllPairs};
-ghost use Rattle.sketch_rules.specs.Ops.{every_sum};
+ghost use Rattle.sketch_rules.specs.PowerSums.{every_sum};
 ghost use Rattle.poly_rules.specs.Polynomials.{sum_of, scaled};
 ghost use Rattle.poly_rules.specs.Recurrences.{IsShortest};
 ghost use Rattle.poly_rules.specs.Roots.{with_roots};

@@ -3,8 +3,9 @@ use Rattle.std.proofs.Common.{◌≡◌, [], ◌∷◌, ◌++◌, Ok, Err, refl,
 use Rattle.std.specs.Prelude.{codes, Some, None}
 use Rattle.hex.specs.Hex.{decode_pairs, encode_with}
 use Rattle.base_types.specs.declared.text.Kind.TheVariants as kind
-use Rattle.sketch_rules.specs.Ops.{power, power_sum, sums_from}
-use Rattle.sketch_rules.specs.Elements.{carryless_below, product, remainder}
+use Rattle.field_rules.specs.Ops.{power}
+use Rattle.field_rules.specs.Elements.{carryless_below, product, remainder}
+use Rattle.sketch_rules.specs.PowerSums.{power_sum, sums_from}
 use Rattle.sketch_rules.specs.Sketches.{merged, sums_in}
 use Rattle.sketch_rules.specs.Answers.{Rises, answer_of}
 use Rattle.sketch_laws.proofs.Unique.{answer_at-is}

@@ -6,8 +6,8 @@ use Rattle.std.proofs.lemmas.Simd.{map-map, zip2_of_maps}
 use Rattle.std.proofs.Math.ListN.{get_or-map}
 use Rattle.std.proofs.Math.Nat.{zero-div, mod-lt, mod-eq_of_lt, mod-one}
 use Rattle.std.proofs.lemmas.Nat.{pow_pos, shr-shr, mod-pow-add}
-use Rattle.sketch_rules.specs.Elements.{product}
-use Rattle.sketch_laws.proofs.Products.{product-below}
+use Rattle.field_rules.specs.Elements.{product}
+use Rattle.field_laws.proofs.Products.{product-below}
 use Rattle.field_core.specs.Tables.{IsTable, IsByteTable, AreByteTables}
 use Rattle.field_core.proofs.LaneLists.{map_same, map_alike}
 use Rattle.field_core.proofs.Nibbles.{words_give}

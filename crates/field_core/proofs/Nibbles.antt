@@ -3,12 +3,12 @@ use Rattle.std.proofs.Common.{◌≡◌, ℕ, zero, suc, ◌+◌, ◌*◌, ◌/�
 use Rattle.std.specs.Int.Bits.{bit_xor, xor_self, xor_zero_l, xor_comm, xor_assoc, xor_lt, xor_shifted}
 use Rattle.std.proofs.Math.Nat.{one-mul, mod-lt, mod-one, mod-eq_of_lt, le_trans}
 use Rattle.std.proofs.lemmas.Nat.{pow_pos, pow-add, shl_below, mod-pow-add}
-use Rattle.sketch_rules.specs.Elements.{carryless_below, product}
-use Rattle.sketch_laws.specs.Rests.{IsRest}
-use Rattle.sketch_laws.proofs.Carryless.{carryless_below-zero_l, carryless_below-one_l, carryless_below-one_r, carryless_below-shl_r}
-use Rattle.sketch_laws.proofs.Folds.{fold_once}
-use Rattle.sketch_laws.proofs.Products.{product-below, product-shift, rest_is_the_product}
-use Rattle.sketch_laws.proofs.Rings.{product-one, product-xor, product-assoc}
+use Rattle.field_rules.specs.Elements.{carryless_below, product}
+use Rattle.field_laws.specs.Rests.{IsRest}
+use Rattle.field_laws.proofs.Carryless.{carryless_below-zero_l, carryless_below-one_l, carryless_below-one_r, carryless_below-shl_r}
+use Rattle.field_laws.proofs.Folds.{fold_once}
+use Rattle.field_laws.proofs.Products.{product-below, product-shift, rest_is_the_product}
+use Rattle.field_laws.proofs.Rings.{product-one, product-xor, product-assoc}
 use Rattle.field_core.specs.Tables.{IsTable, AreTables}
 use Rattle.field_core.proofs.Windows.{nibble_sums}
 

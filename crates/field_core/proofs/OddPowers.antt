@@ -3,9 +3,9 @@ use Rattle.std.proofs.Common.{◌≡◌, ℕ, suc, ◌+◌, ◌*◌, ◌<◌, �
 use Rattle.std.proofs.Math.Seq.{drop-cons}
 use Rattle.std.proofs.lemmas.List.{take_more_set, drop-set-lt, take-append-drop}
 use Rattle.std.proofs.Math.ListN.{drop_of_length-le}
-use Rattle.sketch_rules.specs.Ops.{Ops, IsRing, power, with_odd_powers}
-use Rattle.sketch_rules.specs.Elements.{product}
-use Rattle.sketch_laws.proofs.Rings.{product-comm}
+use Rattle.field_rules.specs.Ops.{Ops, IsRing, power, with_odd_powers}
+use Rattle.field_rules.specs.Elements.{product}
+use Rattle.field_laws.proofs.Rings.{product-comm}
 use Rattle.field_core.specs.declared.gf32.Gf32.{Gf32}
 use Rattle.field_core.specs.Gf32.{ops as operations, bits_of, same_bits}
 

@@ -3,10 +3,10 @@ use Rattle.std.proofs.Common.{◌≡◌, ℕ, ◌*◌, ◌/◌, ◌%◌, ◌^◌
 use Rattle.std.specs.Int.Bits.{bit_xor, xor_lt}
 use Rattle.std.proofs.Math.Nat.{mod-eq_of_lt, le_refl}
 use Rattle.std.proofs.lemmas.Nat.{and_mask, shr_below}
-use Rattle.sketch_rules.specs.Elements.{carryless_below, remainder}
-use Rattle.sketch_laws.specs.Rests.{IsRest}
-use Rattle.sketch_laws.proofs.Folds.{fold_once, fold_below, low_multiple}
-use Rattle.sketch_laws.proofs.Remainders.{rest_only, rest_trans, rest_xor, remainder-below, remainder_is_rest}
+use Rattle.field_rules.specs.Elements.{carryless_below, remainder}
+use Rattle.field_laws.specs.Rests.{IsRest}
+use Rattle.field_laws.proofs.Folds.{fold_once, fold_below, low_multiple}
+use Rattle.field_laws.proofs.Remainders.{rest_only, rest_trans, rest_xor, remainder-below, remainder_is_rest}
 
 -- the multiple of h by the low terms of the modulus, by shifts of 64 bits
 abbrev shifted : ℕ → ℕ

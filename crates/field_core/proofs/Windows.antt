@@ -3,8 +3,8 @@ use Rattle.std.proofs.Common.{◌≡◌, ℕ, zero, suc, ◌+◌, ◌-◌, ◌*�
 use Rattle.std.specs.Int.Bits.{bit_xor, xor_zero_r, xor_zero_l}
 use Rattle.std.proofs.Math.Nat.{zero-mul, one-mul, mul-one, mod-lt, mod-eq_of_lt, le_trans}
 use Rattle.std.proofs.lemmas.Nat.{and_mask, shr-shr}
-use Rattle.sketch_rules.specs.Elements.{carryless_below}
-use Rattle.sketch_laws.proofs.Carryless.{carryless_below-lt, carryless_below-window}
+use Rattle.field_rules.specs.Elements.{carryless_below}
+use Rattle.field_laws.proofs.Carryless.{carryless_below-lt, carryless_below-window}
 
 -- the exclusive or of those of the four terms at which the list index has a 1, the first at its lowest bit
 abbrev pub nibble_sums : ℕ → ℕ → ℕ → ℕ → List ℕ

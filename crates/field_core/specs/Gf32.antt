@@ -4,14 +4,14 @@ use Rattle.std.proofs.Common.{refl, lit<}
 use Rattle.std.proofs.lemmas.Nat.{xor_lt}
 use mathlib.Core.HLevel.{is_prop→PathP}
 use native.Mathlib.Bridge.{le_prop}
-use Rattle.sketch_rules.specs.Ops.{Ops, IsRing}
-use Rattle.sketch_rules.specs.Elements.{product}
-use Rattle.sketch_rules.specs.Fields.{IsField, IsToldApart}
-use Rattle.sketch_rules.specs.Numbered.{IsNumbered}
-use Rattle.sketch_laws.proofs.Products.{product-below}
-use Rattle.sketch_laws.proofs.Rings.{ring_of_numbered}
-use Rattle.sketch_laws.proofs.Fields.{field_of_certified, told_apart}
-use Rattle.sketch_laws.proofs.Certified32.{certified_32}
+use Rattle.field_rules.specs.Ops.{Ops, IsRing}
+use Rattle.field_rules.specs.Elements.{product}
+use Rattle.field_rules.specs.Fields.{IsField, IsToldApart}
+use Rattle.field_rules.specs.Numbered.{IsNumbered}
+use Rattle.field_laws.proofs.Products.{product-below}
+use Rattle.field_laws.proofs.Rings.{ring_of_numbered}
+use Rattle.field_laws.proofs.Fields.{field_of_certified, told_apart}
+use Rattle.field_laws.proofs.Certified32.{certified_32}
 use Rattle.field_core.specs.declared.gf32.Gf32.{Gf32}
 
 -- the bits of an element

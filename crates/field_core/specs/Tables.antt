@@ -1,6 +1,6 @@
 -- Tables of the multiples of one factor.
 use Rattle.std.specs.Prelude.{◌≡◌, ℕ, ◌+◌, ◌*◌, ◌/◌, ◌%◌, ◌^◌, ◌<◌, List, [], slice_index, slice_index_or}
-use Rattle.sketch_rules.specs.Elements.{product}
+use Rattle.field_rules.specs.Elements.{product}
 
 -- place j of a table is the factor's product with the polynomial j, i nibbles up
 abbrev pub IsTable : ℕ → ℕ → List ℕ → Type 0

@@ -1,7 +1,7 @@
 //! The multiple of a list by one factor, added to another list, over the field of 2 ^ 32 elements.
 
 ghost use Rattle.std.specs.Prelude.{◌≡◌, length, map};
-ghost use Rattle.sketch_rules.specs.Fields.{with_multiple};
+ghost use Rattle.field_rules.specs.Fields.{with_multiple};
 ghost use Rattle.field_core.specs.Gf32.{ops, bits_of};
 
 use crate::lane_multiples::LaneMultiples;

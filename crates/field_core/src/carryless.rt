@@ -1,8 +1,8 @@
 //! Products of polynomials over GF(2), and their remainders by `x ^ 32 + x ^ 7 + x ^ 3 + x ^ 2 + 1`.
 
 ghost use Rattle.std.specs.Prelude.{◌≡◌, ℕ, ◌<◌, ◌^◌, ◌/◌, ◌%◌, slice_index, bit_xor};
-ghost use Rattle.sketch_rules.specs.Elements.{carryless_below, remainder};
-ghost use Rattle.sketch_rules.specs.Elements.{product as product_of};
+ghost use Rattle.field_rules.specs.Elements.{carryless_below, remainder};
+ghost use Rattle.field_rules.specs.Elements.{product as product_of};
 
 use crate::nibble_tables::nibble_sums;
 

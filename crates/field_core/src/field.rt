@@ -2,10 +2,10 @@
 
 ghost use Rattle.std.specs.Prelude.{◌≡◌, ◌≢◌, ◌↔◌, ℕ, ◌<◌, ◌^◌, bit_xor, nat_eq, IsTrue, length, map};
 ghost use Rattle.std.specs.Ordering.{nat_cmp};
-ghost use Rattle.sketch_rules.specs.Ops.{Ops, IsRing, with_odd_powers};
-ghost use Rattle.sketch_rules.specs.Fields.{IsField, IsToldApart, trace_of, with_multiple, dot_of};
-ghost use Rattle.sketch_rules.specs.Elements.{IsProduct};
-ghost use Rattle.sketch_rules.specs.Numbered.{IsNumbered};
+ghost use Rattle.field_rules.specs.Ops.{Ops, IsRing, with_odd_powers};
+ghost use Rattle.field_rules.specs.Fields.{IsField, IsToldApart, trace_of, with_multiple, dot_of};
+ghost use Rattle.field_rules.specs.Elements.{IsProduct};
+ghost use Rattle.field_rules.specs.Numbered.{IsNumbered};
 
 /// A field of `2 ^ BITS` elements. Element n is the polynomial over GF(2) that has bit i of n as the coefficient of
 /// `x ^ i`.

@@ -1,7 +1,7 @@
 //! The multiples of one factor by sixteen elements at once: tables of bytes, which shuffles look up.
 
 ghost use Rattle.std.specs.Prelude.{◌≡◌, ℕ, ◌*◌, ◌/◌, ◌%◌, ◌<◌, ◌^◌, map};
-ghost use Rattle.sketch_rules.specs.Elements.{product};
+ghost use Rattle.field_rules.specs.Elements.{product};
 ghost use Rattle.field_core.specs.Tables.{AreByteTables};
 
 use crate::lanes::{bytes_at, looked_up, upper_halves, words_with};

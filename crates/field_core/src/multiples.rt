@@ -1,7 +1,7 @@
 //! The multiples of one factor: tables by which its product with any element takes eight loads.
 
 ghost use Rattle.std.specs.Prelude.{◌≡◌, ℕ, ◌*◌, ◌/◌, ◌%◌, ◌<◌, ◌^◌, slice_index};
-ghost use Rattle.sketch_rules.specs.Elements.{product};
+ghost use Rattle.field_rules.specs.Elements.{product};
 ghost use Rattle.field_core.specs.Tables.{AreTables, IsTable};
 
 use crate::nibble_tables::nibble_sums;

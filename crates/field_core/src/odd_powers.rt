@@ -1,7 +1,7 @@
 //! The odd powers of an element of the field of 2 ^ 32 elements, added to a list.
 
 ghost use Rattle.std.specs.Prelude.{◌≡◌};
-ghost use Rattle.sketch_rules.specs.Ops.{with_odd_powers};
+ghost use Rattle.field_rules.specs.Ops.{with_odd_powers};
 ghost use Rattle.field_core.specs.Gf32.{ops};
 
 use crate::multiples::Multiples;

@@ -3,7 +3,7 @@ use Rattle.std.proofs.Common.{◌≡◌, ℕ, zero, suc, ◌+◌, ◌^◌, ◌<�
 use Rattle.std.specs.List.{AllByRecursion}
 use Rattle.std.proofs.lemmas.Bool.{leb-true, ltb-true}
 use Rattle.std.proofs.lemmas.List.{length-map}
-use Rattle.sketch_rules.specs.Elements.{numbers}
+use Rattle.field_rules.specs.Elements.{numbers}
 use Rattle.sketch_laws.proofs.EverySums.{length-sums_from}
 use Rattle.wire_rules.specs.Limits.{IsMessage, within_limits, in_range}
 use Rattle.wire_rules.specs.declared.limits.TheConstants.{LIST_LIMIT}

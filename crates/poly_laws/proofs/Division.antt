@@ -1,12 +1,12 @@
 -- Long division by a monic polynomial, one step at a time, and that there is a remainder.
 use Rattle.std.proofs.Common.{◌≡◌, ◌⊎◌, inl, inr, ℕ, suc, ◌+◌, ◌<◌, ◌≤◌, List, [], ◌∷◌, ◌++◌, length, take, replicate, refl, sym, ap, subst, ◌∙◌, arith}
 use Rattle.std.proofs.lemmas.List.{take_more, take_all, length-take-le, length-map, map-append}
-use Rattle.sketch_rules.specs.Ops.{Ops, IsRing}
-use Rattle.sketch_rules.specs.Fields.{with_multiple}
+use Rattle.field_rules.specs.Ops.{Ops, IsRing}
+use Rattle.field_rules.specs.Fields.{with_multiple}
 use Rattle.poly_rules.specs.Polynomials.{coefficient, Same, IsMonic, sum_of, scaled, product_of}
 use Rattle.poly_rules.specs.Remainders.{IsRemainder}
 use Rattle.poly_laws.specs.Rests.{IsRest}
-use Rattle.sketch_laws.proofs.RingFacts.{zero_plus}
+use Rattle.field_laws.proofs.RingFacts.{zero_plus}
 use Rattle.poly_laws.proofs.Elements.{plus_turn}
 use Rattle.poly_laws.proofs.Sums.{same_self, same_back, same_along, same_of, same_cons, sum_same}
 use Rattle.poly_laws.proofs.Products.{product_shift, product_term}

@@ -1,7 +1,7 @@
 -- Sums of elements.
 use Rattle.std.proofs.Common.{◌≡◌, sym, ap, ◌∙◌}
-use Rattle.sketch_rules.specs.Ops.{Ops, IsRing}
-use Rattle.sketch_laws.proofs.RingFacts.{plus_swap, same_of_sum}
+use Rattle.field_rules.specs.Ops.{Ops, IsRing}
+use Rattle.field_laws.proofs.RingFacts.{plus_swap, same_of_sum}
 
 module _ {A : Type 0} (ops : Ops A) (ring : IsRing ops) where
   -- the first two of three terms change places

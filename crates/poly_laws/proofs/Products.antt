@@ -1,7 +1,7 @@
 -- Products of polynomials.
 use Rattle.std.proofs.Common.{◌≡◌, ℕ, zero, suc, ◌+◌, List, [], ◌∷◌, ◌++◌, replicate, refl, sym, ap, arith}
 use Rattle.std.proofs.Math.Nat.{suc-add}
-use Rattle.sketch_rules.specs.Ops.{Ops, IsRing}
+use Rattle.field_rules.specs.Ops.{Ops, IsRing}
 use Rattle.poly_rules.specs.Polynomials.{Same, sum_of, scaled, product_of, x_to_the}
 use Rattle.poly_laws.proofs.Sums.{same_self, same_back, same_along, same_of, same_cons, same_none, sum_none, sum_same, sum_turn, sum_swap, shift_sum, scaled_same, scaled_sum, scaled_plus, scaled_scaled, scaled_zero, scaled_one, scaled_shift}
 

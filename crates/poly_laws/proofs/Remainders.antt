@@ -1,11 +1,11 @@
 -- Remainders by a monic polynomial: there is one, and it is kept by sums and products.
 use Rattle.std.proofs.Common.{◌≡◌, ◌⊎◌, inl, inr, ℕ, zero, suc, ◌+◌, ◌<◌, ◌≤◌, List, [], ◌∷◌, ◌++◌, length, take, refl, sym, ap, ◌∙◌, arith, add-one}
 use Rattle.std.proofs.lemmas.List.{get_or_past, ext_get_or, take_more, take_all}
-use Rattle.sketch_rules.specs.Ops.{Ops, IsRing}
+use Rattle.field_rules.specs.Ops.{Ops, IsRing}
 use Rattle.poly_rules.specs.Polynomials.{coefficient, Same, IsTrimmed, IsMonic, sum_of, scaled, product_of}
 use Rattle.poly_rules.specs.Remainders.{IsRemainder}
 use Rattle.poly_laws.specs.Rests.{IsRest}
-use Rattle.sketch_laws.proofs.RingFacts.{zero_plus, times_zero}
+use Rattle.field_laws.proofs.RingFacts.{zero_plus, times_zero}
 use Rattle.poly_laws.proofs.Sums.{same_self, same_back, same_along, same_none, coefficient-sum, coefficient-scaled, sum_same, sum_assoc, sum_swap, sum_across, sum_none_same}
 use Rattle.poly_laws.proofs.Products.{product_same_r, product_same_l, product_sum_r, product_sum_l, product_assoc, product_comm}
 

@@ -2,10 +2,10 @@
 use Rattle.std.proofs.Common.{◌≡◌, ◌≢◌, ◌⊎◌, inl, inr, ℕ, zero, suc, ◌+◌, ◌<◌, ◌≤◌, List, [], ◌∷◌, length, get_or, refl, sym, ap, ◌∙◌, arith}
 use Rattle.std.proofs.lemmas.List.{length-map, get_or_past}
 use Rattle.std.specs.List.{All, AllPairs}
-use Rattle.sketch_rules.specs.Ops.{Ops, IsRing}
+use Rattle.field_rules.specs.Ops.{Ops, IsRing}
 use Rattle.poly_rules.specs.Polynomials.{coefficient, Same, IsMonic, value_at, sum_of, scaled, product_of}
 use Rattle.poly_rules.specs.Roots.{IsRoot, with_roots}
-use Rattle.sketch_laws.proofs.RingFacts.{zero_plus, times_zero, zero_times, one_times, same_of_sum}
+use Rattle.field_laws.proofs.RingFacts.{zero_plus, times_zero, zero_times, one_times, same_of_sum}
 use Rattle.poly_laws.proofs.Elements.{plus_turn}
 use Rattle.poly_laws.proofs.Sums.{same_self, same_back, same_along, same_of, same_cons, same_none, coefficient-sum, coefficient-scaled, sum_same, sum_comm, sum_none}
 use Rattle.poly_laws.proofs.Products.{product_none, product_cons, product_same_r}

@@ -1,6 +1,6 @@
 -- The square of a polynomial has the squares of its coefficients at even places, and zeros between them.
 use Rattle.std.proofs.Common.{List, [], ◌∷◌, refl}
-use Rattle.sketch_rules.specs.Ops.{Ops, IsRing}
+use Rattle.field_rules.specs.Ops.{Ops, IsRing}
 use Rattle.poly_rules.specs.Polynomials.{Same, sum_of, scaled, product_of}
 use Rattle.poly_laws.specs.Squares.{spaced, squares_apart}
 use Rattle.poly_laws.proofs.Sums.{same_self, same_back, same_along, same_cons, sum_same, sum_assoc, sum_self}

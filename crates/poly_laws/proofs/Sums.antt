@@ -1,8 +1,8 @@
 -- Sums of polynomials and multiples by an element.
 use Rattle.std.proofs.Common.{◌≡◌, ℕ, zero, suc, List, [], ◌∷◌, refl, sym, ap, ◌∙◌}
-use Rattle.sketch_rules.specs.Ops.{Ops, IsRing}
+use Rattle.field_rules.specs.Ops.{Ops, IsRing}
 use Rattle.poly_rules.specs.Polynomials.{coefficient, Same, sum_of, scaled}
-use Rattle.sketch_laws.proofs.RingFacts.{zero_plus, times_zero, zero_times, one_times, distributes_left, plus_swap, same_of_sum}
+use Rattle.field_laws.proofs.RingFacts.{zero_plus, times_zero, zero_times, one_times, distributes_left, plus_swap, same_of_sum}
 use Rattle.poly_laws.proofs.Elements.{plus_turn, plus_across}
 
 module _ {A : Type 0} (ops : Ops A) where

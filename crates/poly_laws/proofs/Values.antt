@@ -1,9 +1,9 @@
 -- Values of sums, multiples and products.
 use Rattle.std.proofs.Common.{◌≡◌, zero, suc, List, [], ◌∷◌, refl, sym, ap, ◌∙◌}
-use Rattle.sketch_rules.specs.Ops.{Ops, IsRing}
+use Rattle.field_rules.specs.Ops.{Ops, IsRing}
 use Rattle.poly_rules.specs.Polynomials.{Same, value_at, sum_of, scaled, product_of}
 use Rattle.poly_rules.specs.Remainders.{IsRemainder}
-use Rattle.sketch_laws.proofs.RingFacts.{zero_plus, times_zero, zero_times, distributes_left, plus_swap}
+use Rattle.field_laws.proofs.RingFacts.{zero_plus, times_zero, zero_times, distributes_left, plus_swap}
 use Rattle.poly_laws.proofs.Sums.{same_back, same_tail}
 
 module _ {A : Type 0} (ops : Ops A) (ring : IsRing ops) where

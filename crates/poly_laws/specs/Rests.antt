@@ -1,6 +1,6 @@
 -- What may stand for a polynomial when only its remainder counts.
 use Rattle.std.specs.Prelude.{List}
-use Rattle.sketch_rules.specs.Ops.{Ops}
+use Rattle.field_rules.specs.Ops.{Ops}
 use Rattle.poly_rules.specs.Polynomials.{Same, sum_of, product_of}
 
 -- r is a without some multiple of f, and may have any number of coefficients

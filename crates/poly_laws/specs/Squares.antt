@@ -1,6 +1,6 @@
 -- Squares of polynomials.
 use Rattle.std.specs.Prelude.{List, [], ◌∷◌, map}
-use Rattle.sketch_rules.specs.Ops.{Ops}
+use Rattle.field_rules.specs.Ops.{Ops}
 
 -- each item with a zero behind it
 unfoldable pub spaced : {A : Type 0} → A → List A → List A

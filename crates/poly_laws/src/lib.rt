@@ -4,8 +4,8 @@
 
 ghost use Rattle.std.specs.Prelude.{◌≡◌, ◌≢◌, ℕ, ◌≤◌, List, length};
 ghost use Rattle.std.specs.List.{All, AllPairs};
-ghost use Rattle.sketch_rules.specs.Ops.{Ops, IsRing};
-ghost use Rattle.sketch_rules.specs.Fields.{IsField};
+ghost use Rattle.field_rules.specs.Ops.{Ops, IsRing};
+ghost use Rattle.field_rules.specs.Fields.{IsField};
 ghost use Rattle.poly_rules.specs.Polynomials.{Same, IsTrimmed, IsMonic, sum_of, product_of};
 ghost use Rattle.poly_rules.specs.Remainders.{IsRemainder};
 ghost use Rattle.poly_rules.specs.Roots.{IsRoot, with_roots};

@@ -2,7 +2,7 @@
 
 ghost use Rattle.std.specs.Prelude.{◌≡◌, ◌≢◌, ℕ, ◌<◌, ◌≤◌, List, length, Some, None};
 ghost use Rattle.std.specs.List.{All, AllPairs};
-ghost use Rattle.sketch_rules.specs.Ops.{sketch_by};
+ghost use Rattle.sketch_rules.specs.PowerSums.{sketch_by};
 ghost use Rattle.sketch_rules.specs.Answers.{Answer, answer_at};
 
 use field_core::Field;

@@ -1,7 +1,7 @@
 -- Worked examples, computed from the definitions alone.
 use Rattle.std.proofs.Common.{◌≡◌, ℕ, zero, suc, ◌+◌, ◌<◌, ◌≤◌, [], ◌∷◌, get_or, drop, refl, arith, lit<}
-use Rattle.sketch_rules.specs.Fields.{dot_of}
-use Rattle.sketch_rules.specs.Elements.{carryless_below, remainder, product, numbers}
+use Rattle.field_rules.specs.Fields.{dot_of}
+use Rattle.field_rules.specs.Elements.{carryless_below, remainder, product, numbers}
 use Rattle.poly_rules.specs.Polynomials.{value_at, sum_of, product_of, x_to_the}
 use Rattle.poly_rules.specs.Remainders.{IsRemainder}
 use Rattle.poly_rules.specs.Recurrences.{Extends, Recurs}

@@ -1,6 +1,6 @@
 -- Polynomials over any type with a sum and a product. A polynomial is the list of its coefficients, from the constant up.
 use Rattle.std.specs.Prelude.{◌≡◌, ◌≢◌, ℕ, ◌+◌, ◌-◌, List, [], ◌∷◌, ◌++◌, length, get_or, map, replicate}
-use Rattle.sketch_rules.specs.Ops.{Ops}
+use Rattle.field_rules.specs.Ops.{Ops}
 
 -- the coefficient of x ^ i, which is zero from the end of the list on
 abbrev pub coefficient : {A : Type 0} → Ops A → List A → ℕ → A

@@ -1,7 +1,7 @@
 -- Linear recurrences of sequences.
 use Rattle.std.specs.Prelude.{◌≡◌, ℕ, ◌+◌, ◌<◌, ◌≤◌, List, length, take, drop, reverse}
-use Rattle.sketch_rules.specs.Ops.{Ops}
-use Rattle.sketch_rules.specs.Fields.{dot_of}
+use Rattle.field_rules.specs.Ops.{Ops}
+use Rattle.field_rules.specs.Fields.{dot_of}
 use Rattle.poly_rules.specs.Polynomials.{coefficient, degree}
 
 -- s has n items, sums first, and goes on by s_(k+L) = f_0 * s_k + .. + f_(L-1) * s_(k+L-1), where L is the degree of f

@@ -1,6 +1,6 @@
 -- Remainders of polynomials.
 use Rattle.std.specs.Prelude.{◌≡◌, ℕ, ◌+◌, ◌^◌, ◌<◌, ◌≤◌, List, [], length, get_or}
-use Rattle.sketch_rules.specs.Ops.{Ops}
+use Rattle.field_rules.specs.Ops.{Ops}
 use Rattle.poly_rules.specs.Polynomials.{Same, sum_of, product_of, x_to_the}
 
 -- r is the remainder of a by f: it has fewer coefficients than f, and it is a without some multiple of f

@@ -1,6 +1,6 @@
 -- Roots of polynomials.
 use Rattle.std.specs.Prelude.{◌≡◌, List, [], ◌∷◌}
-use Rattle.sketch_rules.specs.Ops.{Ops}
+use Rattle.field_rules.specs.Ops.{Ops}
 use Rattle.poly_rules.specs.Polynomials.{value_at, product_of}
 
 -- the value at r is zero

@@ -5,8 +5,9 @@ use Rattle.base_types.specs.declared.lists.Hash32.{Hash32}
 use Rattle.line_rules.specs.Lines.{lines, numbered}
 use Rattle.line_rules.specs.Numbers.{digits_onto}
 use Rattle.line_rules.specs.Reading.{read_lines}
-use Rattle.sketch_rules.specs.Elements.{carryless_below, remainder, product}
-use Rattle.sketch_rules.specs.Ops.{power, power_sum, sums_from}
+use Rattle.field_rules.specs.Elements.{carryless_below, remainder, product}
+use Rattle.field_rules.specs.Ops.{power}
+use Rattle.sketch_rules.specs.PowerSums.{power_sum, sums_from}
 use Rattle.sketch_rules.specs.Sets.{placed, ascending}
 use Rattle.sketch_rules.specs.Sketches.{merged, sums_in}
 use Rattle.id_rules.proofs.Samples.{hashing, from_digits}

@@ -4,8 +4,8 @@ use Rattle.std.specs.Prelude.{◌≡◌, ℕ, ◌==◌, not, Bool, List, map, fi
 use Rattle.std.specs.List.{AllByRecursion}
 use Rattle.std.specs.declared.option.Option.{Option}
 use Rattle.base_types.specs.declared.lists.Hash32.{Hash32}
-use Rattle.sketch_rules.specs.Ops.{sums_from}
-use Rattle.sketch_rules.specs.Elements.{numbers}
+use Rattle.field_rules.specs.Elements.{numbers}
+use Rattle.sketch_rules.specs.PowerSums.{sums_from}
 use Rattle.sketch_rules.specs.Sets.{difference}
 use Rattle.sketch_rules.specs.Sketches.{sketch_of}
 use Rattle.id_rules.specs.Ids.{KeyPair, short_id}

@@ -1,10 +1,10 @@
 -- The sum of products with a sequence, as a function of the polynomial whose coefficients are the factors.
 use Rattle.std.proofs.Common.{◌≡◌, ℕ, zero, suc, ◌+◌, ◌-◌, ◌<◌, ◌≤◌, List, [], ◌∷◌, ◌++◌, length, take, drop, replicate, refl, sym, ap, ◌∙◌, arith}
 use Rattle.std.proofs.lemmas.List.{drop-drop, drop-take}
-use Rattle.sketch_rules.specs.Ops.{Ops, IsRing}
-use Rattle.sketch_rules.specs.Fields.{dot_of}
+use Rattle.field_rules.specs.Ops.{Ops, IsRing}
+use Rattle.field_rules.specs.Fields.{dot_of}
 use Rattle.poly_rules.specs.Polynomials.{coefficient, Same, IsMonic, sum_of, scaled, product_of}
-use Rattle.sketch_laws.proofs.RingFacts.{zero_plus, one_times, times_zero, zero_times, distributes_left, plus_swap}
+use Rattle.field_laws.proofs.RingFacts.{zero_plus, one_times, times_zero, zero_times, distributes_left, plus_swap}
 use Rattle.poly_laws.proofs.Sums.{same_back, same_tail}
 
 module _ {A : Type 0} (ops : Ops A) where

@@ -1,8 +1,8 @@
 -- A polynomial that first fails at some place of a sequence bounds the degree of each that holds there.
 use Rattle.std.proofs.Common.{◌≡◌, ◌⊎◌, inl, inr, ℕ, ◌+◌, ◌-◌, ◌<◌, ◌≤◌, List, ◌∷◌, length, take, drop, reverse, sym, ap, ◌∙◌, arith}
 use Rattle.std.proofs.lemmas.List.{drop-drop, length-take-le}
-use Rattle.sketch_rules.specs.Ops.{Ops, IsRing}
-use Rattle.sketch_rules.specs.Fields.{dot_of}
+use Rattle.field_rules.specs.Ops.{Ops, IsRing}
+use Rattle.field_rules.specs.Fields.{dot_of}
 use Rattle.poly_rules.specs.Polynomials.{coefficient, IsMonic, product_of}
 use Rattle.poly_rules.specs.Recurrences.{Recurs}
 use Rattle.poly_laws.proofs.Products.{product_comm}

@@ -2,11 +2,11 @@
 use Rattle.std.proofs.Common.{◌≡◌, ℕ, zero, suc, ◌+◌, ◌<◌, List, [], ◌∷◌, ◌++◌, length, drop, reverse, refl, sym, ap, ◌∙◌, arith}
 use Rattle.std.proofs.lemmas.List.{get_or-drop, get_or_push, length-reverse}
 use Rattle.std.proofs.lemmas.Grind.{reverse_onto}
-use Rattle.sketch_rules.specs.Ops.{Ops, IsRing}
-use Rattle.sketch_rules.specs.Fields.{dot_of}
+use Rattle.field_rules.specs.Ops.{Ops, IsRing}
+use Rattle.field_rules.specs.Fields.{dot_of}
 use Rattle.poly_rules.specs.Polynomials.{coefficient, IsMonic}
 use Rattle.poly_rules.specs.Recurrences.{Recurs}
-use Rattle.sketch_laws.proofs.RingFacts.{zero_plus, one_times, same_of_sum}
+use Rattle.field_laws.proofs.RingFacts.{zero_plus, one_times, same_of_sum}
 use Rattle.recurrence_laws.proofs.Applied.{dot_of-nil}
 
 module _ {A : Type 0} (ops : Ops A) (ring : IsRing ops) where

@@ -1,10 +1,10 @@
 -- The search ends with a shortest recurrence.
 use Rattle.std.proofs.Common.{◌≡◌, ◌≢◌, ◌⊎◌, inl, inr, ℕ, ◌+◌, ◌-◌, ◌<◌, ◌≤◌, List, ◌∷◌, length, drop, reverse, sym, ap, ◌∙◌, arith}
-use Rattle.sketch_rules.specs.Ops.{Ops, IsRing}
-use Rattle.sketch_rules.specs.Fields.{dot_of}
+use Rattle.field_rules.specs.Ops.{Ops, IsRing}
+use Rattle.field_rules.specs.Fields.{dot_of}
 use Rattle.poly_rules.specs.Polynomials.{degree}
 use Rattle.poly_rules.specs.Recurrences.{Recurs, IsShortest}
-use Rattle.sketch_laws.proofs.RingFacts.{zero_times}
+use Rattle.field_laws.proofs.RingFacts.{zero_times}
 use Rattle.recurrence_laws.specs.Solving.{IsSolving}
 use Rattle.recurrence_laws.proofs.Monic.{monic_form, monic_from_recurs, recurs_from_monic}
 use Rattle.recurrence_laws.proofs.Massey.{holds_on}

@@ -1,10 +1,10 @@
 -- One item more in the search for the shortest recurrence.
 use Rattle.std.proofs.Common.{◌≡◌, ◌⊎◌, inl, inr, ℕ, ◌+◌, ◌-◌, ◌<◌, ◌≤◌, List, [], ◌∷◌, ◌++◌, length, drop, replicate, refl, sym, ap, subst, ◌∙◌, arith}
 use Rattle.std.proofs.lemmas.List.{drop-drop, get_or_past, get_or-append-add, length-append, length-map, length-replicate}
-use Rattle.sketch_rules.specs.Ops.{Ops, IsRing}
-use Rattle.sketch_rules.specs.Fields.{dot_of}
+use Rattle.field_rules.specs.Ops.{Ops, IsRing}
+use Rattle.field_rules.specs.Fields.{dot_of}
 use Rattle.poly_rules.specs.Polynomials.{coefficient, degree, IsMonic, sum_of, scaled}
-use Rattle.sketch_laws.proofs.RingFacts.{times_zero}
+use Rattle.field_laws.proofs.RingFacts.{times_zero}
 use Rattle.poly_laws.proofs.Sums.{coefficient-sum}
 use Rattle.poly_laws.proofs.Division.{length-sum}
 use Rattle.recurrence_laws.specs.Solving.{IsSolving}

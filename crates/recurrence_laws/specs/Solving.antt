@@ -1,7 +1,7 @@
 -- What the search for the shortest recurrence of a sequence keeps.
 use Rattle.std.specs.Prelude.{◌≡◌, ℕ, ◌+◌, ◌<◌, ◌≤◌, List, length, drop}
-use Rattle.sketch_rules.specs.Ops.{Ops}
-use Rattle.sketch_rules.specs.Fields.{dot_of}
+use Rattle.field_rules.specs.Ops.{Ops}
+use Rattle.field_rules.specs.Fields.{dot_of}
 use Rattle.poly_rules.specs.Polynomials.{degree, IsMonic}
 
 -- Of the first n items of s. Recurrences c_1, .., c_L stand in their monic form c_L, .., c_1, 1. The sum of its products

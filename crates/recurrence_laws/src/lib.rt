@@ -2,7 +2,7 @@
 #![tactic(auto)]
 
 ghost use Rattle.std.specs.Prelude.{ℕ, ◌+◌, ◌<◌, ◌≤◌, List, length, take};
-ghost use Rattle.sketch_rules.specs.Ops.{Ops, IsRing};
+ghost use Rattle.field_rules.specs.Ops.{Ops, IsRing};
 ghost use Rattle.poly_rules.specs.Recurrences.{Recurs};
 
 /// Where a recurrence holds of the first m items and not of one more, its length and that of each recurrence that

@@ -2,10 +2,11 @@
 use Rattle.std.proofs.Common.{◌≡◌, ℕ, ◌^◌, ◌<◌, List, map, get_or, subst, ap, ◌∙◌}
 use Rattle.std.specs.List.{All}
 use Rattle.std.proofs.lemmas.List.Elements.{All-map}
-use Rattle.sketch_rules.specs.Ops.{Ops, sketch_by}
-use Rattle.sketch_rules.specs.Numbered.{IsNumbered}
+use Rattle.field_rules.specs.Ops.{Ops}
+use Rattle.field_rules.specs.Numbered.{IsNumbered}
+use Rattle.sketch_rules.specs.PowerSums.{sketch_by}
 use Rattle.sketch_rules.specs.Sketches.{sketch_at}
-use Rattle.sketch_laws.proofs.NumberedLists.{elements_of}
+use Rattle.field_laws.proofs.NumberedLists.{elements_of}
 use Rattle.sketch_laws.proofs.SketchNumbers.{sketch_by-numbers}
 
 module _ {A : Type 0} (ops : Ops A) (bits_of : A → ℕ) (width : ℕ) (numbered : IsNumbered ops bits_of width) where

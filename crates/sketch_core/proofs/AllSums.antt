@@ -4,7 +4,8 @@ use Rattle.std.proofs.Math.ListN.{get_or-append}
 use Rattle.std.proofs.Math.Seq.{get_or-append_seam}
 use Rattle.std.proofs.lemmas.List.{get_or-take, get_or_default, length-take-le}
 use Rattle.std.proofs.lemmas.Bool.{cases_lt}
-use Rattle.sketch_rules.specs.Ops.{Ops, IsAllSums}
+use Rattle.field_rules.specs.Ops.{Ops}
+use Rattle.sketch_rules.specs.PowerSums.{IsAllSums}
 
 module _ {A : Type 0} (ops : Ops A) (xs s : List A) (i : ℕ) (x half : A) (all : IsAllSums ops (take i xs) s) (inside : i < length xs) (x_is : x ≡ get_or xs i x) (half_is : half ≡ get_or (s ++ x ∷ []) i half) where
   -- what was there, the sum x, and the square of half

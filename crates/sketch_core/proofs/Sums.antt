@@ -1,7 +1,8 @@
 -- Sums of odd powers, one element at a time.
 use Rattle.std.proofs.Common.{◌≡◌, ℕ, zero, suc, ◌+◌, ◌*◌, List, [], ◌∷◌, ◌++◌, ◌<◌, length, get_or, take, replicate, refl, sym, ◌∙◌, ap}
 use Rattle.std.proofs.lemmas.List.{take_more}
-use Rattle.sketch_rules.specs.Ops.{Ops, IsRing, power, power_sum, sums_from, with_odd_powers}
+use Rattle.field_rules.specs.Ops.{Ops, IsRing, power, with_odd_powers}
+use Rattle.sketch_rules.specs.PowerSums.{power_sum, sums_from}
 
 module _ {A : Type 0} (ops : Ops A) where
   -- the sums of no element are zeros

@@ -2,7 +2,8 @@
 
 ghost use Rattle.std.specs.Prelude.{◌≡◌, ◌≢◌, ℕ, ◌+◌, ◌-◌, ◌*◌, ◌<◌, ◌≤◌, List, [], ◌∷◌, ◌++◌, length, map, replicate, take, drop, IfOk, IfErr, OnOk};
 ghost use Rattle.std.specs.List.{All, AllPairs};
-ghost use Rattle.sketch_rules.specs.Ops.{IsAllSums, every_sum, sketch_by, sums_from, with_odd_powers};
+ghost use Rattle.field_rules.specs.Ops.{with_odd_powers};
+ghost use Rattle.sketch_rules.specs.PowerSums.{IsAllSums, every_sum, sketch_by, sums_from};
 ghost use Rattle.sketch_rules.specs.Sets.{difference};
 ghost use Rattle.sketch_rules.specs.Sketches.{IsCapacity, merged, sketch_at};
 ghost use Rattle.sketch_core.specs.Refusals.{IsRefusal};

@@ -1,9 +1,10 @@
 -- The sums of all powers, out of those of the odd powers.
 use Rattle.std.proofs.Common.{◌≡◌, ◌⊎◌, inl, inr, ℕ, zero, suc, ◌+◌, ◌*◌, ◌/◌, ◌<◌, ◌≤◌, List, [], ◌∷◌, length, get_or, refl, sym, ap, ◌∙◌, arith}
 use Rattle.std.proofs.lemmas.List.{ext_get_or}
-use Rattle.sketch_rules.specs.Ops.{Ops, IsRing, IsAllSums, power, power_sum, sums_from, sketch_by, every_sum}
-use Rattle.sketch_laws.proofs.RingFacts.{zero_times, square_plus}
-use Rattle.sketch_laws.proofs.Conjugates.{power-plus}
+use Rattle.field_rules.specs.Ops.{Ops, IsRing, power}
+use Rattle.sketch_rules.specs.PowerSums.{IsAllSums, power_sum, sums_from, sketch_by, every_sum}
+use Rattle.field_laws.proofs.RingFacts.{zero_times, square_plus}
+use Rattle.field_laws.proofs.Conjugates.{power-plus}
 
 -- a number is even or odd
 half : (p : ℕ) → (j : ℕ) × ((p ≡ 2 * j) ⊎ (p ≡ 2 * j + 1))

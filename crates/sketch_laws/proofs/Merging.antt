@@ -4,11 +4,12 @@ use Rattle.std.specs.Prelude.{nat_lt, filter}
 use Rattle.std.specs.Int.Bits.{bit_xor, xor_self, xor_zero_l, xor_zero_r, xor_comm, xor_assoc}
 use Rattle.std.specs.List.{AllPairs}
 use Rattle.std.proofs.lemmas.Bool.{eqb-true, eq-eqb, ne_eqb, cases_eq, cases_Bool, or_parts}
-use Rattle.sketch_rules.specs.Ops.{power, power_sum, sums_from}
-use Rattle.sketch_rules.specs.Elements.{numbers}
+use Rattle.field_rules.specs.Ops.{power}
+use Rattle.field_rules.specs.Elements.{numbers}
+use Rattle.sketch_rules.specs.PowerSums.{power_sum, sums_from}
 use Rattle.sketch_rules.specs.Sets.{lacking, placed, ascending, difference}
 use Rattle.sketch_rules.specs.Sketches.{merged, sketch_at}
-use Rattle.sketch_laws.proofs.Xors.{xor_swap}
+use Rattle.field_laws.proofs.Xors.{xor_swap}
 use Rattle.sketch_laws.proofs.Sets.{has, Apart, Apart-from_AllPairs}
 
 -- a test of equality either way round

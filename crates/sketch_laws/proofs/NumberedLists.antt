@@ -1,33 +1,15 @@
--- Lists of elements that are told by their bits, and lists of numbers.
-use Rattle.std.proofs.Common.{◌≡◌, ◌≢◌, ◌⊎◌, inl, inr, ℕ, suc, ◌^◌, ◌<◌, ◌≤◌, List, [], ◌∷◌, length, get_or, map, refl, sym, ap, ◌∙◌, arith}
+-- The bits of elements that rise.
+use Rattle.std.proofs.Common.{◌≡◌, ◌≢◌, ◌⊎◌, inl, inr, ℕ, ◌^◌, ◌<◌, ◌≤◌, List, length, get_or, map, sym, ◌∙◌, arith}
 use Rattle.std.specs.List.{All, AllPairs}
 use Rattle.std.proofs.lemmas.Bool.{cases_eq}
 use Rattle.std.proofs.lemmas.List.{length-map, get_or-map}
 use Rattle.std.proofs.lemmas.List.Elements.{All-map}
-use Rattle.sketch_rules.specs.Ops.{Ops}
+use Rattle.field_rules.specs.Ops.{Ops}
+use Rattle.field_rules.specs.Numbered.{IsNumbered}
 use Rattle.sketch_rules.specs.Answers.{Rises}
-use Rattle.sketch_rules.specs.Numbered.{IsNumbered}
 use Rattle.sketch_laws.proofs.Rising.{Rises-from_AllPairs}
 
 module _ {A : Type 0} (ops : Ops A) (bits_of : A → ℕ) (width : ℕ) (numbered : IsNumbered ops bits_of width) where
-  -- the elements of these bits
-  pub elements_of : (ns : List ℕ) → All (λ n. n < 2 ^ width) ns → (es : List A) × (map bits_of es ≡ ns)
-  elements_of [] fit = ([], refl)
-  elements_of (n ∷ ns) fit =
-      let first = numbered.filled n (fit 0 n (omega arith)) in
-      let rest = elements_of ns (λ k d lt. fit (suc k) d (omega arith)) in
-      (first.0 ∷ rest.0, rw (first.1, rest.1) refl)
-
-  -- two lists with the same bits are the same
-  pub same_elements : (xs ys : List A) → map bits_of xs ≡ map bits_of ys → xs ≡ ys
-  same_elements [] [] e = refl
-  same_elements [] (y ∷ ys) e = cc
-  same_elements (x ∷ xs) [] e = cc
-  same_elements (x ∷ xs) (y ∷ ys) e =
-      let first : x ≡ y = numbered.same x y cc in
-      let rest : xs ≡ ys = same_elements xs ys cc in
-      cc
-
   -- an element other than zero has a bit
   has_bit : (a : A) → a ≢ ops.zero → 1 ≤ bits_of a
   has_bit a some = by (cases_eq (bits_of a) 0)
@@ -49,11 +31,3 @@ module _ {A : Type 0} (ops : Ops A) (bits_of : A → ℕ) (width : ℕ) (numbere
       (All-map (λ n. 1 ≤ n) bits_of es (λ k d lt. has_bit (get_or es k d) (nonzero k d lt)))
       (All-map (λ n. n < 2 ^ width) bits_of es (λ k d lt. numbered.below (get_or es k d)))
       (bits_rise es rises)
-
-  -- elements whose bits rise are distinct
-  pub distinct : (es : List A) → AllPairs (λ a b. a < b) (map bits_of es) → AllPairs (λ a b. a ≢ b) es
-  distinct es rises i j d below within same =
-      let less = rises i j (bits_of d) below (omega (arith, length-map es bits_of)) in
-      let one = get_or-map bits_of es i d (bits_of d) (omega arith) in
-      let other = get_or-map bits_of es j d (bits_of d) within in
-      omega (arith, ap bits_of same)

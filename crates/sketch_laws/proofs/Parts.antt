@@ -1,6 +1,7 @@
 -- Parts of the list of sums: its front, its rest, and both together.
 use Rattle.std.proofs.Common.{◌≡◌, ℕ, zero, suc, ◌+◌, ◌-◌, ◌*◌, ◌≤◌, List, ◌∷◌, ◌++◌, take, drop, refl, ap, ◌∙◌, arith}
-use Rattle.sketch_rules.specs.Ops.{Ops, power_sum, sums_from, sketch_by}
+use Rattle.field_rules.specs.Ops.{Ops}
+use Rattle.sketch_rules.specs.PowerSums.{power_sum, sums_from, sketch_by}
 
 module _ {A : Type 0} (ops : Ops A) (es : List A) where
   -- the first k of n sums

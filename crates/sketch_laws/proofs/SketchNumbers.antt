@@ -1,8 +1,9 @@
 -- A sketch over a field whose elements are told by their bits is the sketch over numbers.
 use Rattle.std.proofs.Common.{◌≡◌, ℕ, zero, suc, ◌+◌, ◌*◌, List, [], ◌∷◌, map, refl, ◌∙◌, ap}
-use Rattle.sketch_rules.specs.Ops.{Ops, power, power_sum, sums_from, sketch_by}
-use Rattle.sketch_rules.specs.Elements.{product, numbers}
-use Rattle.sketch_rules.specs.Numbered.{IsNumbered}
+use Rattle.field_rules.specs.Ops.{Ops, power}
+use Rattle.field_rules.specs.Elements.{product, numbers}
+use Rattle.field_rules.specs.Numbered.{IsNumbered}
+use Rattle.sketch_rules.specs.PowerSums.{power_sum, sums_from, sketch_by}
 use Rattle.sketch_rules.specs.Sketches.{sketch_at}
 
 module _ {A : Type 0} (ops : Ops A) (bits_of : A → ℕ) (width : ℕ) (numbered : IsNumbered ops bits_of width) where

@@ -4,20 +4,23 @@ use Rattle.std.specs.Prelude.{Option, Some, None}
 use Rattle.std.specs.Int.Bits.{bit_xor, xor_self}
 use Rattle.std.specs.List.{All, AllPairs}
 use Rattle.std.proofs.lemmas.List.{length-map, get_or-map}
-use Rattle.sketch_rules.specs.Ops.{Ops, IsRing, power_sum, sketch_by}
-use Rattle.sketch_rules.specs.Elements.{numbers}
-use Rattle.sketch_rules.specs.Fields.{IsField}
-use Rattle.sketch_rules.specs.Numbered.{IsNumbered}
+use Rattle.field_rules.specs.Ops.{Ops, IsRing}
+use Rattle.field_rules.specs.Elements.{numbers}
+use Rattle.field_rules.specs.Fields.{IsField}
+use Rattle.field_rules.specs.Numbered.{IsNumbered}
+use Rattle.sketch_rules.specs.PowerSums.{power_sum, sketch_by}
 use Rattle.sketch_rules.specs.Sets.{difference}
 use Rattle.sketch_rules.specs.Sketches.{sketch_at}
 use Rattle.sketch_rules.specs.Answers.{Rises, Answer, answer_at, answer_at-some, answer_at-none}
+use Rattle.field_laws.proofs.NumberedLists.{elements_of, same_elements, distinct}
+use Rattle.field_laws.proofs.Weights.{lone_weight}
 use Rattle.sketch_laws.proofs.EverySums.{sums_zero, get_or-sums_from, length-sums_from}
 use Rattle.sketch_laws.proofs.Merging.{power_sum-difference}
-use Rattle.sketch_laws.proofs.NumberedLists.{elements_of, same_elements, distinct, Rises-bits}
+use Rattle.sketch_laws.proofs.NumberedLists.{Rises-bits}
 use Rattle.sketch_laws.proofs.Rising.{each_within, same_rising, AllPairs-from_Rises, differ_from_rises, Rises-difference}
 use Rattle.sketch_laws.proofs.Sets.{Apart, Apart-from_AllPairs, difference_within, same_where_no_difference}
 use Rattle.sketch_laws.proofs.SketchNumbers.{power_sum-numbers, sketch_by-numbers}
-use Rattle.sketch_laws.proofs.Weights.{lone_weight, weighted-own}
+use Rattle.sketch_laws.proofs.Weights.{weighted-own}
 
 module _ {A : Type 0} (ops : Ops A) (ring : IsRing ops) (no_zero_divisor : (a b : A) → ops.times a b ≡ ops.zero → (a ≡ ops.zero) ⊎ (b ≡ ops.zero)) where
   -- of at most 2c distinct elements whose sums of odd powers below 2c are zero, each is zero

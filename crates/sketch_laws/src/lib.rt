@@ -1,18 +1,10 @@
 //! The laws of the product of field elements and of sums of sketches, in `proofs/`, each stated by a function.
 #![tactic(auto)]
 
-ghost use Rattle.std.specs.Prelude.{◌≡◌, ◌≢◌, ◌⊎◌, ◌↔◌, ℕ, ◌<◌, ◌^◌, List};
+ghost use Rattle.std.specs.Prelude.{◌≡◌, ◌≢◌, ◌⊎◌, ◌↔◌, ℕ, ◌<◌, List};
 ghost use Rattle.std.specs.List.{AllPairs, Contains};
-ghost use Rattle.sketch_rules.specs.Elements.{IsWidth, IsProduct, product};
 ghost use Rattle.sketch_rules.specs.Sets.{difference};
 ghost use Rattle.sketch_rules.specs.Sketches.{merged, sketch_at};
-
-/// Two elements have one product at each width, which is what long division by the modulus leaves. It does nothing
-/// when it runs: its contract is the theorem.
-pub fn one_product()
-    ensures exists { (width a b : ℕ) → IsWidth width → a < 2 ^ width → b < 2 ^ width → IsProduct width a b (product width a b) }
-    ensures unique { (width a b r : ℕ) → IsWidth width → a < 2 ^ width → b < 2 ^ width → IsProduct width a b r → r ≡ product width a b }
-{}
 
 /// The difference of two sets is strictly ascending and holds the numbers that are in exactly one of them, and its
 /// sketch is the sum of their sketches. It does nothing when it runs: its contract is the theorem.

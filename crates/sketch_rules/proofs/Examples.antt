@@ -2,25 +2,12 @@
 use Rattle.std.proofs.Common.{◌≡◌, ℕ, zero, suc, ◌+◌, ◌*◌, ◌<◌, [], ◌∷◌, get_or, refl, arith, lit<, lit≤}
 use Rattle.hex.specs.Hex.{encode_with}
 use Rattle.std.specs.Prelude.{codes}
-use Rattle.sketch_rules.specs.Ops.{power, power_sum, sums_from, every_sum, IsAllSums}
-use Rattle.sketch_rules.specs.Elements.{carryless_below, remainder, product, numbers}
+use Rattle.field_rules.specs.Ops.{power}
+use Rattle.field_rules.specs.Elements.{carryless_below, remainder, product, numbers}
+use Rattle.sketch_rules.specs.PowerSums.{power_sum, sums_from, every_sum, IsAllSums}
 use Rattle.sketch_rules.specs.Sketches.{digits_of, merged, sketch_of}
 use Rattle.sketch_rules.specs.Sets.{ascending, difference, placed}
 use Rattle.sketch_rules.specs.Answers.{Rises, Answer}
-
--- x ^ 32 is the low terms of the modulus
-turned : product 32 0x80000000 2 ≡ 0x8D
-unfolding product remainder carryless_below
-turned = refl
-
--- the square and the cube of x ^ 31
-square : product 32 0x80000000 0x80000000 ≡ 0x40001037
-unfolding product remainder carryless_below
-square = refl
-
-cube : product 32 0x40001037 0x80000000 ≡ 0x20046D72
-unfolding product remainder carryless_below
-cube = refl
 
 -- the set of 1 alone, at capacity 3
 one : digits_of (sketch_of (1 ∷ []) 3) ≡ codes "010000000100000001000000"

@@ -1,7 +1,4 @@
-pub mod Ops
-pub mod Fields
-pub mod Elements
-pub mod Numbered
+pub mod PowerSums
 pub mod Sketches
 pub mod Sets
 pub mod Answers

@@ -3,8 +3,8 @@ use Rattle.std.specs.Prelude.{ℕ, ◌≤◌, List, [], ◌∷◌, bit_xor}
 use Rattle.std.specs.List.{flat_map}
 use Rattle.std.specs.Int.{from_le_bytes, to_le_bytes, w32}
 use Rattle.hex.specs.Hex.{encode_lower}
-use Rattle.sketch_rules.specs.Ops.{sketch_by}
-use Rattle.sketch_rules.specs.Elements.{numbers}
+use Rattle.field_rules.specs.Elements.{numbers}
+use Rattle.sketch_rules.specs.PowerSums.{sketch_by}
 
 -- the sketch of elements of the field of 2 ^ width elements
 abbrev pub sketch_at : ℕ → List ℕ → ℕ → List ℕ

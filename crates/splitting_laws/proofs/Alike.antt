@@ -4,9 +4,9 @@ use Rattle.std.specs.Prelude.{nat_eq, filter}
 use Rattle.std.specs.List.{All, AllPairs}
 use Rattle.std.proofs.lemmas.List.Elements.{All-filter, filter_passes}
 use Rattle.std.proofs.lemmas.List.Kept.{AllPairs-filter}
-use Rattle.sketch_rules.specs.Ops.{Ops, IsRing}
-use Rattle.sketch_rules.specs.Fields.{IsField, IsToldApart, trace_of}
-use Rattle.sketch_rules.specs.Numbered.{IsNumbered}
+use Rattle.field_rules.specs.Ops.{Ops, IsRing}
+use Rattle.field_rules.specs.Fields.{IsField, IsToldApart, trace_of}
+use Rattle.field_rules.specs.Numbered.{IsNumbered}
 use Rattle.poly_rules.specs.Polynomials.{Same, value_at}
 use Rattle.poly_rules.specs.Remainders.{IsFrobeniusTable}
 use Rattle.poly_rules.specs.Roots.{IsRoot}

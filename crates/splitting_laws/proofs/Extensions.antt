@@ -3,13 +3,14 @@
 use Rattle.std.proofs.Common.{◌≡◌, ◌⊎◌, inl, inr, ℕ, zero, suc, ◌+◌, ◌-◌, ◌<◌, ◌≤◌, List, length, get_or, take, drop, refl, sym, ap, ◌∙◌, arith, add-one}
 use Rattle.std.specs.List.{All}
 use Rattle.std.proofs.lemmas.List.{length-take, length-take-le, get_or-drop, take-take, take_all, take_more_same, drop-take}
-use Rattle.sketch_rules.specs.Ops.{Ops, IsRing, every_sum}
-use Rattle.sketch_rules.specs.Fields.{dot_of}
+use Rattle.field_rules.specs.Ops.{Ops, IsRing}
+use Rattle.field_rules.specs.Fields.{dot_of}
+use Rattle.sketch_rules.specs.PowerSums.{every_sum}
 use Rattle.poly_rules.specs.Polynomials.{coefficient, degree, IsMonic, value_at}
 use Rattle.poly_rules.specs.Recurrences.{Extends}
 use Rattle.poly_rules.specs.Roots.{IsRoot, with_roots}
+use Rattle.field_laws.proofs.RingFacts.{same_of_sum}
 use Rattle.sketch_laws.proofs.EverySums.{length-every_sum}
-use Rattle.sketch_laws.proofs.RingFacts.{same_of_sum}
 use Rattle.poly_laws.proofs.Remainders.{monic-split}
 use Rattle.poly_laws.proofs.Roots.{with_roots-monic, with_roots-root}
 use Rattle.recurrence_laws.proofs.Applied.{dot_of-take}

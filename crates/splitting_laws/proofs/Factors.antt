@@ -1,10 +1,11 @@
 -- The products of factors of the parts of a set, and of sets of one member.
 use Rattle.std.proofs.Common.{◌≡◌, Bool, true, false, not, cond, List, [], ◌∷◌, length, sym, ap, ◌∙◌, arith}
 use Rattle.std.specs.Prelude.{filter}
-use Rattle.sketch_rules.specs.Ops.{Ops, IsRing, power, power_sum}
+use Rattle.field_rules.specs.Ops.{Ops, IsRing, power}
+use Rattle.sketch_rules.specs.PowerSums.{power_sum}
 use Rattle.poly_rules.specs.Polynomials.{Same, sum_of, product_of}
 use Rattle.poly_rules.specs.Roots.{with_roots}
-use Rattle.sketch_laws.proofs.RingFacts.{one_times}
+use Rattle.field_laws.proofs.RingFacts.{one_times}
 use Rattle.poly_laws.proofs.Sums.{same_along, scaled_one}
 use Rattle.poly_laws.proofs.Products.{product_same_r, product_assoc, product_comm, product_constant}
 

@@ -9,12 +9,13 @@ use Rattle.std.proofs.lemmas.List.Elements.{All-filter}
 use Rattle.std.proofs.lemmas.List.Filters.{length-filter_both}
 use Rattle.std.proofs.lemmas.List.Kept.{AllPairs-filter}
 use Rattle.std.proofs.lemmas.List.Sorted.{IsPermutation-filter_both, IsPermutation-append, IsPermutation-trans}
-use Rattle.sketch_rules.specs.Ops.{Ops, IsRing, power, power_sum, every_sum}
-use Rattle.sketch_rules.specs.Fields.{dot_of}
-use Rattle.sketch_rules.specs.Numbered.{IsNumbered}
+use Rattle.field_rules.specs.Ops.{Ops, IsRing, power}
+use Rattle.field_rules.specs.Fields.{dot_of}
+use Rattle.field_rules.specs.Numbered.{IsNumbered}
+use Rattle.sketch_rules.specs.PowerSums.{power_sum, every_sum}
 use Rattle.poly_rules.specs.Polynomials.{coefficient, value_at, sum_of}
-use Rattle.sketch_laws.proofs.RingFacts.{zero_plus, times_zero, zero_times, plus_again}
-use Rattle.sketch_laws.proofs.Weights.{weighted}
+use Rattle.field_laws.proofs.RingFacts.{zero_plus, times_zero, zero_times, plus_again}
+use Rattle.field_laws.proofs.Weights.{weighted}
 use Rattle.poly_laws.proofs.Elements.{plus_turn}
 use Rattle.splitting_laws.specs.Parts.{IsWindows}
 use Rattle.sketch_laws.proofs.EverySums.{length-every_sum, get_or-every_sum}

@@ -8,8 +8,9 @@ use Rattle.std.proofs.lemmas.List.{length-set, get_or-set_same, get_or-set_other
 use Rattle.std.proofs.lemmas.List.Edits.{swap_is}
 use Rattle.std.proofs.lemmas.List.Sums.{sum_by-cons}
 use Rattle.std.proofs.lemmas.List.Sorted.{IsPermutation-keeps, sum_by-IsPermutation}
-use Rattle.sketch_rules.specs.Ops.{Ops, IsRing, power, power_sum, every_sum}
-use Rattle.sketch_laws.proofs.RingFacts.{plus_cancels}
+use Rattle.field_rules.specs.Ops.{Ops, IsRing, power}
+use Rattle.sketch_rules.specs.PowerSums.{power_sum, every_sum}
+use Rattle.field_laws.proofs.RingFacts.{plus_cancels}
 use Rattle.poly_laws.proofs.Elements.{plus_turn}
 
 module _ {A : Type 0} (ops : Ops A) (ring : IsRing ops) where

@@ -4,14 +4,15 @@ use Rattle.std.proofs.Common.{◌≡◌, ◌≢◌, ◌⊎◌, inl, inr, ℕ, �
 use Rattle.std.specs.List.{All, AllPairs}
 use Rattle.std.proofs.lemmas.List.{length-reverse, length-take-le, reverse-reverse, ext_get_or}
 use Rattle.std.proofs.lemmas.Grind.{reverse_onto}
-use Rattle.sketch_rules.specs.Ops.{Ops, IsRing, every_sum}
-use Rattle.sketch_rules.specs.Fields.{IsField, dot_of}
+use Rattle.field_rules.specs.Ops.{Ops, IsRing}
+use Rattle.field_rules.specs.Fields.{IsField, dot_of}
+use Rattle.sketch_rules.specs.PowerSums.{every_sum}
 use Rattle.poly_rules.specs.Polynomials.{Same, IsMonic, value_at}
 use Rattle.poly_rules.specs.Roots.{IsRoot, with_roots}
 use Rattle.poly_rules.specs.Recurrences.{Recurs, IsShortest}
-use Rattle.sketch_laws.proofs.RingFacts.{times_zero}
+use Rattle.field_laws.proofs.RingFacts.{times_zero}
+use Rattle.field_laws.proofs.Weights.{weighted-zero, lone_weight}
 use Rattle.sketch_laws.proofs.EverySums.{length-every_sum}
-use Rattle.sketch_laws.proofs.Weights.{weighted-zero, lone_weight}
 use Rattle.poly_laws.proofs.Remainders.{monic-split}
 use Rattle.poly_laws.proofs.Roots.{with_roots-monic, with_roots-root, roots_within, factors_of_roots}
 use Rattle.recurrence_laws.proofs.Monic.{monic_form, monic_from_recurs, recurs_from_monic}

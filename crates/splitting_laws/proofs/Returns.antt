@@ -3,13 +3,13 @@
 use Rattle.std.proofs.Common.{◌≡◌, ◌≢◌, ℕ, ◌+◌, ◌≤◌, List, [], ◌∷◌, length, get_or, refl, sym, ap, ◌∙◌, arith}
 use Rattle.std.specs.List.{All, AllPairs}
 use Rattle.std.proofs.lemmas.List.{get_or_past}
-use Rattle.sketch_rules.specs.Ops.{Ops, IsRing}
-use Rattle.sketch_rules.specs.Fields.{IsField}
+use Rattle.field_rules.specs.Ops.{Ops, IsRing}
+use Rattle.field_rules.specs.Fields.{IsField}
 use Rattle.poly_rules.specs.Polynomials.{coefficient, Same, IsTrimmed, IsMonic, value_at, sum_of}
 use Rattle.poly_rules.specs.Remainders.{IsFrobeniusTable}
 use Rattle.poly_rules.specs.Roots.{IsRoot, with_roots}
-use Rattle.sketch_laws.proofs.RingFacts.{zero_plus, plus_cancels}
-use Rattle.sketch_laws.proofs.Conjugates.{conjugate-none}
+use Rattle.field_laws.proofs.RingFacts.{zero_plus, plus_cancels}
+use Rattle.field_laws.proofs.Conjugates.{conjugate-none}
 use Rattle.poly_laws.proofs.Sums.{coefficient-sum, sum_none_same}
 use Rattle.poly_laws.proofs.Remainders.{length-sum-below, trimmed-same}
 use Rattle.poly_laws.proofs.Division.{length-sum-r}

@@ -1,7 +1,7 @@
 -- A table of the remainders of x, x ^ 2, x ^ 4, .. by a product leaves one by each factor.
 use Rattle.std.proofs.Common.{◌≡◌, ℕ, ◌+◌, ◌^◌, ◌≤◌, Bool, not, List, [], length, get_or}
 use Rattle.std.specs.Prelude.{filter}
-use Rattle.sketch_rules.specs.Ops.{Ops, IsRing}
+use Rattle.field_rules.specs.Ops.{Ops, IsRing}
 use Rattle.poly_rules.specs.Polynomials.{Same, product_of, x_to_the}
 use Rattle.poly_rules.specs.Remainders.{IsRemainder, IsFrobeniusTable}
 use Rattle.poly_rules.specs.Roots.{with_roots}

@@ -2,13 +2,13 @@
 use Rattle.std.proofs.Common.{◌≡◌, ℕ, zero, suc, ◌+◌, ◌^◌, ◌<◌, ◌≤◌, List, [], ◌∷◌, length, get_or, refl, sym, ap, ◌∙◌, arith, add-one, replicate}
 use Rattle.std.specs.List.{All}
 use Rattle.std.proofs.lemmas.List.{length-map}
-use Rattle.sketch_rules.specs.Ops.{Ops, IsRing, power}
-use Rattle.sketch_rules.specs.Fields.{conjugate, trace_of, with_multiple}
+use Rattle.field_rules.specs.Ops.{Ops, IsRing, power}
+use Rattle.field_rules.specs.Fields.{conjugate, trace_of, with_multiple}
 use Rattle.poly_rules.specs.Polynomials.{Same, value_at, sum_of, scaled, x_to_the}
 use Rattle.poly_rules.specs.Remainders.{IsFrobeniusTable}
 use Rattle.poly_rules.specs.Roots.{IsRoot}
-use Rattle.sketch_laws.proofs.RingFacts.{zero_plus, times_zero}
-use Rattle.sketch_laws.proofs.Conjugates.{conjugate-times, conjugate-power}
+use Rattle.field_laws.proofs.RingFacts.{zero_plus, times_zero}
+use Rattle.field_laws.proofs.Conjugates.{conjugate-times, conjugate-power}
 use Rattle.poly_laws.proofs.Sums.{same_self, same_along, same_of, same_none, sum_same}
 use Rattle.poly_laws.proofs.Remainders.{length-sum-below}
 use Rattle.poly_laws.proofs.Division.{with_multiple-sum}

@@ -2,11 +2,12 @@
 -- values, weighted by powers.
 use Rattle.std.proofs.Common.{◌≡◌, ℕ, zero, suc, ◌+◌, ◌-◌, ◌≤◌, List, [], ◌∷◌, length, take, drop, refl, sym, ap, ◌∙◌, arith, add-one}
 use Rattle.std.proofs.Math.Nat.{suc-add}
-use Rattle.sketch_rules.specs.Ops.{Ops, IsRing, power, power_sum, every_sum}
-use Rattle.sketch_rules.specs.Fields.{dot_of}
+use Rattle.field_rules.specs.Ops.{Ops, IsRing, power}
+use Rattle.field_rules.specs.Fields.{dot_of}
+use Rattle.sketch_rules.specs.PowerSums.{power_sum, every_sum}
 use Rattle.poly_rules.specs.Polynomials.{value_at}
-use Rattle.sketch_laws.proofs.RingFacts.{times_zero, distributes_left, plus_swap}
-use Rattle.sketch_laws.proofs.Weights.{weighted, weighted-zero}
+use Rattle.field_laws.proofs.RingFacts.{times_zero, distributes_left, plus_swap}
+use Rattle.field_laws.proofs.Weights.{weighted, weighted-zero}
 
 module _ {A : Type 0} (ops : Ops A) where
   -- ---- the list of sums

@@ -1,7 +1,7 @@
 -- How a polynomial whose values on a set are zero and one parts the set and its sums.
 use Rattle.std.specs.Prelude.{◌≡◌, ℕ, ◌<◌, nat_eq, not, List, length, drop, filter}
-use Rattle.sketch_rules.specs.Ops.{Ops}
-use Rattle.sketch_rules.specs.Fields.{dot_of}
+use Rattle.field_rules.specs.Ops.{Ops}
+use Rattle.field_rules.specs.Fields.{dot_of}
 use Rattle.poly_rules.specs.Polynomials.{coefficient, value_at}
 
 -- the members at which t has the value one, told by its bits

@@ -1,7 +1,7 @@
 -- Polynomials whose values at the roots of a polynomial are traces.
 use Rattle.std.specs.Prelude.{ℕ, zero, suc, List, [], get_or}
-use Rattle.sketch_rules.specs.Ops.{Ops}
-use Rattle.sketch_rules.specs.Fields.{conjugate}
+use Rattle.field_rules.specs.Ops.{Ops}
+use Rattle.field_rules.specs.Fields.{conjugate}
 use Rattle.poly_rules.specs.Polynomials.{sum_of, scaled}
 
 -- the sum of b ^ (2 ^ i) times the polynomial at place i of the table, over the first n places. Where these are the

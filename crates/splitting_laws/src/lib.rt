@@ -5,9 +5,10 @@
 ghost use Rattle.std.specs.Prelude.{◌≡◌, ◌≢◌, ℕ, ◌+◌, ◌*◌, ◌^◌, ◌≤◌, List, ◌∷◌, ◌++◌, length, reverse, get_or, []};
 ghost use Rattle.std.specs.List.{All, AllPairs};
 ghost use Rattle.std.specs.List.Sorted.{IsPermutation};
-ghost use Rattle.sketch_rules.specs.Ops.{Ops, IsRing, every_sum};
-ghost use Rattle.sketch_rules.specs.Fields.{IsField, IsToldApart, trace_of};
-ghost use Rattle.sketch_rules.specs.Numbered.{IsNumbered};
+ghost use Rattle.field_rules.specs.Ops.{Ops, IsRing};
+ghost use Rattle.field_rules.specs.Fields.{IsField, IsToldApart, trace_of};
+ghost use Rattle.field_rules.specs.Numbered.{IsNumbered};
+ghost use Rattle.sketch_rules.specs.PowerSums.{every_sum};
 ghost use Rattle.poly_rules.specs.Polynomials.{Same, value_at, sum_of};
 ghost use Rattle.poly_rules.specs.Remainders.{IsFrobeniusTable};
 ghost use Rattle.poly_rules.specs.Recurrences.{Extends, IsShortest};

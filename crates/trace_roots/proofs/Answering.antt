@@ -3,13 +3,14 @@ use Rattle.std.proofs.Common.{◌≡◌, ◌≢◌, ℕ, ◌+◌, ◌*◌, ◌/�
 use Rattle.std.specs.List.{All, AllPairs}
 use Rattle.std.proofs.lemmas.List.{length-map, get_or-map, get_or_default, ext_get_or}
 use borrow.Author.Count.{below_more}
-use Rattle.sketch_rules.specs.Ops.{Ops, IsAllSums, sketch_by}
-use Rattle.sketch_rules.specs.Numbered.{IsNumbered}
+use Rattle.field_rules.specs.Ops.{Ops}
+use Rattle.field_rules.specs.Numbered.{IsNumbered}
+use Rattle.sketch_rules.specs.PowerSums.{IsAllSums, sketch_by}
 use Rattle.sketch_rules.specs.Sketches.{sketch_at}
 use Rattle.sketch_rules.specs.Answers.{Rises, Answer}
 use Rattle.poly_rules.specs.Polynomials.{coefficient}
+use Rattle.field_laws.proofs.NumberedLists.{same_elements, distinct}
 use Rattle.sketch_laws.proofs.EverySums.{length-sums_from}
-use Rattle.sketch_laws.proofs.NumberedLists.{same_elements, distinct}
 use Rattle.sketch_laws.proofs.Rising.{each_within, AllPairs-from_Rises}
 use Rattle.sketch_laws.proofs.SketchNumbers.{sketch_by-numbers}
 use Rattle.trace_roots.specs.Agreeing.{AreAtOddPowers}

@@ -1,9 +1,10 @@
 -- What it means to answer the answer to a sketch.
 use Rattle.std.proofs.Common.{◌≡◌, ◌≢◌, ◌↔◌, ℕ, ◌^◌, ◌<◌, ◌≤◌, List, length, map, sym, subst, ◌∙◌, arith, Option, Some, None}
 use Rattle.std.specs.List.{All, AllPairs}
-use Rattle.sketch_rules.specs.Ops.{Ops, IsRing, IsAllSums}
-use Rattle.sketch_rules.specs.Fields.{IsField}
-use Rattle.sketch_rules.specs.Numbered.{IsNumbered}
+use Rattle.field_rules.specs.Ops.{Ops, IsRing}
+use Rattle.field_rules.specs.Fields.{IsField}
+use Rattle.field_rules.specs.Numbered.{IsNumbered}
+use Rattle.sketch_rules.specs.PowerSums.{IsAllSums}
 use Rattle.sketch_rules.specs.Sets.{difference}
 use Rattle.sketch_rules.specs.Sketches.{merged, sketch_at}
 use Rattle.sketch_rules.specs.Answers.{Answer, answer_at, answer_at-some}

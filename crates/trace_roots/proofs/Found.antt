@@ -4,11 +4,12 @@ use Rattle.std.specs.Prelude.{IfSome}
 use Rattle.std.specs.List.Sorted.{IsPermutation}
 use Rattle.std.proofs.lemmas.List.Sorted.{IsPermutation-trans, IsPermutation-append}
 use Rattle.std.proofs.lemmas.Nat.{pow_below}
-use Rattle.sketch_rules.specs.Ops.{Ops, IsRing, power_sum}
-use Rattle.sketch_rules.specs.Fields.{IsToldApart}
-use Rattle.sketch_rules.specs.Numbered.{IsNumbered}
+use Rattle.field_rules.specs.Ops.{Ops, IsRing}
+use Rattle.field_rules.specs.Fields.{IsToldApart}
+use Rattle.field_rules.specs.Numbered.{IsNumbered}
+use Rattle.sketch_rules.specs.PowerSums.{power_sum}
 use Rattle.poly_rules.specs.Polynomials.{value_at}
-use Rattle.sketch_laws.proofs.RingFacts.{times_zero}
+use Rattle.field_laws.proofs.RingFacts.{times_zero}
 use Rattle.splitting_laws.specs.Alike.{IsAlike}
 use Rattle.splitting_laws.proofs.Alike.{alike_end, alike_more}
 use Rattle.splitting_laws.proofs.Factors.{power_sum-lone}

@@ -5,9 +5,10 @@ use Rattle.std.specs.List.{All}
 use Rattle.std.proofs.lemmas.List.{get_or_past}
 use Rattle.std.proofs.lemmas.List.Elements.{All-filter}
 use Rattle.std.proofs.lemmas.List.Sorted.{IsPermutation-trans, IsPermutation-append_comm}
-use Rattle.sketch_rules.specs.Ops.{Ops, IsRing, power_sum, every_sum}
-use Rattle.sketch_rules.specs.Fields.{IsField, trace_of}
-use Rattle.sketch_rules.specs.Numbered.{IsNumbered}
+use Rattle.field_rules.specs.Ops.{Ops, IsRing}
+use Rattle.field_rules.specs.Fields.{IsField, trace_of}
+use Rattle.field_rules.specs.Numbered.{IsNumbered}
+use Rattle.sketch_rules.specs.PowerSums.{power_sum, every_sum}
 use Rattle.poly_rules.specs.Polynomials.{coefficient, degree, Same, IsTrimmed, value_at}
 use Rattle.poly_rules.specs.Recurrences.{IsShortest}
 use Rattle.poly_rules.specs.Roots.{with_roots}

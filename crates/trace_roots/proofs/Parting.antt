@@ -2,15 +2,16 @@
 use Rattle.std.proofs.Common.{◌≡◌, ℕ, suc, ◌+◌, ◌*◌, ◌<◌, ◌≤◌, List, [], ◌∷◌, length, get_or, take, reverse, sym, ap, subst, ◌∙◌, arith}
 use Rattle.std.specs.List.{All}
 use Rattle.std.proofs.lemmas.List.{length-take-le, get_or_default, ext_get_or}
-use Rattle.sketch_rules.specs.Ops.{Ops, IsRing, power_sum, every_sum}
-use Rattle.sketch_rules.specs.Fields.{IsField}
+use Rattle.field_rules.specs.Ops.{Ops, IsRing}
+use Rattle.field_rules.specs.Fields.{IsField}
+use Rattle.sketch_rules.specs.PowerSums.{power_sum, every_sum}
 use Rattle.poly_rules.specs.Polynomials.{coefficient, degree, IsMonic}
 use Rattle.poly_rules.specs.Remainders.{IsRemainder}
 use Rattle.poly_rules.specs.Roots.{IsRoot, with_roots}
 use Rattle.poly_laws.proofs.Roots.{with_roots-monic, with_roots-root}
 use Rattle.poly_laws.proofs.Values.{value_at-remainder}
 use Rattle.poly_rules.specs.Recurrences.{Extends, IsShortest}
-use Rattle.sketch_laws.proofs.RingFacts.{plus_again}
+use Rattle.field_laws.proofs.RingFacts.{plus_again}
 use Rattle.sketch_laws.proofs.EverySums.{length-every_sum, get_or-every_sum}
 use Rattle.recurrence_laws.proofs.Monic.{monic_form}
 use Rattle.splitting_laws.proofs.Recurrences.{shortest_of_set}

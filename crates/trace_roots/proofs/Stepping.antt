@@ -2,9 +2,9 @@
 use Rattle.std.proofs.Common.{◌≡◌, ℕ, ◌+◌, ◌^◌, ◌<◌, List, length, Option, Some}
 use Rattle.std.specs.Prelude.{IfSome}
 use Rattle.std.specs.List.{All}
-use Rattle.sketch_rules.specs.Ops.{Ops, IsRing}
-use Rattle.sketch_rules.specs.Fields.{trace_of}
-use Rattle.sketch_rules.specs.Numbered.{IsNumbered}
+use Rattle.field_rules.specs.Ops.{Ops, IsRing}
+use Rattle.field_rules.specs.Fields.{trace_of}
+use Rattle.field_rules.specs.Numbered.{IsNumbered}
 use Rattle.poly_rules.specs.Polynomials.{value_at}
 use Rattle.splitting_laws.specs.Alike.{IsAlike}
 use Rattle.trace_roots.specs.declared.part.Part.{Part}

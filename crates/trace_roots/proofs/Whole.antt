@@ -5,14 +5,15 @@ use Rattle.std.specs.declared.cmp.Ordering.{Ordering}
 use Rattle.std.specs.List.Sorted.{IsNonDecreasingBy, IsPermutation, IsSorted}
 use Rattle.std.proofs.lemmas.List.{length-map, get_or-map}
 use Rattle.std.proofs.lemmas.List.Sorted.{IsNonDecreasingBy-from_sort, IsNonDecreasingBy-from_all_adjacent, IsPermutation-trans}
-use Rattle.sketch_rules.specs.Ops.{Ops, IsRing, IsAllSums, every_sum, sketch_by}
-use Rattle.sketch_rules.specs.Fields.{IsField}
-use Rattle.sketch_rules.specs.Numbered.{IsNumbered}
+use Rattle.field_rules.specs.Ops.{Ops, IsRing}
+use Rattle.field_rules.specs.Fields.{IsField}
+use Rattle.field_rules.specs.Numbered.{IsNumbered}
+use Rattle.sketch_rules.specs.PowerSums.{IsAllSums, every_sum, sketch_by}
 use Rattle.sketch_rules.specs.Sketches.{sketch_at}
 use Rattle.sketch_rules.specs.Answers.{Rises, Answer, answer_at, answer_at-some}
 use Rattle.poly_rules.specs.Recurrences.{IsShortest}
+use Rattle.field_laws.proofs.NumberedLists.{elements_of, same_elements}
 use Rattle.sketch_laws.proofs.EverySums.{every_sum-only}
-use Rattle.sketch_laws.proofs.NumberedLists.{elements_of, same_elements}
 use Rattle.sketch_laws.proofs.Rising.{AllPairs-from_Rises, each_within}
 use Rattle.sketch_laws.proofs.SketchNumbers.{sketch_by-numbers}
 use Rattle.splitting_laws.proofs.Permutations.{ascending_only}

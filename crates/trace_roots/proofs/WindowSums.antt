@@ -1,10 +1,10 @@
 -- Sums of products with the windows of a list, one coefficient more.
 use Rattle.std.proofs.Common.{◌≡◌, ℕ, zero, suc, ◌+◌, ◌<◌, ◌≤◌, List, [], ◌∷◌, ◌++◌, length, get_or, take, drop, replicate, refl, sym, ap, ◌∙◌, arith, add-one, length-drop}
 use Rattle.std.proofs.lemmas.List.{length-take-le, length-map, length-replicate, get_or-replicate, get_or-take, get_or-drop}
-use Rattle.sketch_rules.specs.Ops.{Ops, IsRing}
-use Rattle.sketch_rules.specs.Fields.{with_multiple, dot_of}
+use Rattle.field_rules.specs.Ops.{Ops, IsRing}
+use Rattle.field_rules.specs.Fields.{with_multiple, dot_of}
 use Rattle.poly_rules.specs.Polynomials.{coefficient, sum_of, scaled}
-use Rattle.sketch_laws.proofs.RingFacts.{times_zero, one_times}
+use Rattle.field_laws.proofs.RingFacts.{times_zero, one_times}
 use Rattle.poly_laws.proofs.Sums.{coefficient-sum, coefficient-scaled}
 use Rattle.splitting_laws.specs.Parts.{IsWindows}
 use Rattle.trace_roots.specs.Added.{AreAdded}

@@ -1,6 +1,6 @@
 -- Sums of odd powers among those of all powers.
 use Rattle.std.specs.Prelude.{◌≡◌, ℕ, ◌*◌, ◌<◌, List, length}
-use Rattle.sketch_rules.specs.Ops.{Ops}
+use Rattle.field_rules.specs.Ops.{Ops}
 use Rattle.poly_rules.specs.Polynomials.{coefficient}
 
 -- the sums s_1, s_3, .. are those that stand among s_1, s_2, s_3, ..

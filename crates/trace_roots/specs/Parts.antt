@@ -2,8 +2,9 @@
 use Rattle.std.specs.Prelude.{◌≡◌, ◌≢◌, ℕ, suc, ◌+◌, ◌*◌, ◌^◌, ◌<◌, ◌≤◌, List, [], ◌∷◌, ◌++◌, length, get_or, reverse}
 use Rattle.std.specs.List.{All, AllPairs}
 use Rattle.std.specs.List.Sorted.{IsPermutation}
-use Rattle.sketch_rules.specs.Ops.{Ops, power_sum, every_sum}
-use Rattle.sketch_rules.specs.Fields.{trace_of}
+use Rattle.field_rules.specs.Ops.{Ops}
+use Rattle.field_rules.specs.Fields.{trace_of}
+use Rattle.sketch_rules.specs.PowerSums.{power_sum, every_sum}
 use Rattle.poly_rules.specs.Polynomials.{coefficient, Same, IsMonic, degree, value_at}
 use Rattle.poly_rules.specs.Roots.{with_roots}
 use Rattle.splitting_laws.specs.Alike.{IsAlike}

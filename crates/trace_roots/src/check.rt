@@ -1,7 +1,7 @@
 //! Whether a list of elements is the set that some sums are of.
 
 ghost use Rattle.std.specs.Prelude.{◌≡◌, ◌↔◌, ℕ, ◌*◌, ◌^◌, ◌<◌, ◌≤◌, List, length, map, IfOk, IsTrue};
-ghost use Rattle.sketch_rules.specs.Ops.{IsAllSums};
+ghost use Rattle.sketch_rules.specs.PowerSums.{IsAllSums};
 ghost use Rattle.sketch_rules.specs.Sketches.{IsCapacity};
 ghost use Rattle.sketch_rules.specs.Answers.{Rises, Answer};
 ghost use Rattle.trace_roots.specs.Agreeing.{AreAtOddPowers};

@@ -2,8 +2,8 @@
 
 ghost use Rattle.std.specs.Prelude.{◌≡◌, ℕ, ◌+◌, ◌*◌, ◌^◌, ◌≤◌, List, length, take, IfOk, IfSome, IsSome};
 ghost use Rattle.std.specs.List.{All};
-ghost use Rattle.sketch_rules.specs.Ops.{every_sum};
-ghost use Rattle.sketch_rules.specs.Fields.{trace_of};
+ghost use Rattle.field_rules.specs.Fields.{trace_of};
+ghost use Rattle.sketch_rules.specs.PowerSums.{every_sum};
 ghost use Rattle.poly_rules.specs.Polynomials.{degree, IsMonic, IsTrimmed, value_at};
 ghost use Rattle.poly_rules.specs.Roots.{with_roots};
 ghost use Rattle.splitting_laws.specs.Alike.{IsAlike};

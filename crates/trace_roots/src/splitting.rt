@@ -2,7 +2,7 @@
 
 ghost use Rattle.std.specs.Prelude.{◌≡◌, ℕ, ◌*◌, ◌≤◌, List, length, map, IfOk, IfSome, IsSome, OnOk};
 ghost use Rattle.std.specs.List.Sorted.{IsPermutation};
-ghost use Rattle.sketch_rules.specs.Ops.{IsAllSums, every_sum};
+ghost use Rattle.sketch_rules.specs.PowerSums.{IsAllSums, every_sum};
 ghost use Rattle.sketch_rules.specs.Sketches.{IsCapacity};
 ghost use Rattle.sketch_rules.specs.Answers.{answer_at};
 ghost use Rattle.poly_rules.specs.Recurrences.{IsShortest};

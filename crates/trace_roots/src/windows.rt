@@ -1,7 +1,7 @@
 //! Sums of products with the windows of a list.
 
 ghost use Rattle.std.specs.Prelude.{◌≡◌, ◌+◌, ◌≤◌, length, replicate, IfOk};
-ghost use Rattle.sketch_rules.specs.Fields.{with_multiple};
+ghost use Rattle.field_rules.specs.Fields.{with_multiple};
 ghost use Rattle.splitting_laws.specs.Parts.{IsWindows};
 ghost use Rattle.trace_roots.specs.Added.{AreAdded};
 

@@ -1,7 +1,7 @@
 use Rattle.std.proofs.Common.{◌≡◌, ◌≢◌, ◌∙◌, List, map, ap, subst, sym}
 use Rattle.std.specs.Result.{IfOk}
 use Rattle.std.specs.List.{All, AllPairs}
-use Rattle.sketch_rules.specs.Ops.{sketch_by}
+use Rattle.sketch_rules.specs.PowerSums.{sketch_by}
 use Rattle.sketch_rules.specs.Sketches.{sketch_of}
 use Rattle.field_core.specs.declared.gf32.Gf32.{Gf32}
 use Rattle.field_core.specs.Gf32.{bits_of, numbered, ops}

@@ -1,7 +1,7 @@
 use Rattle.std.proofs.Common.{◌≡◌, ◌<◌, ◌≤◌, length, map, get_or, drop, sym, ap, ◌∙◌, arith, length-set}
 use Rattle.std.proofs.lemmas.List.{get_or_default}
-use Rattle.sketch_rules.specs.Elements.{product}
-use Rattle.sketch_laws.proofs.Dots.{with_multiple-more, with_multiple-done}
+use Rattle.field_rules.specs.Elements.{product}
+use Rattle.field_laws.proofs.Dots.{with_multiple-more, with_multiple-done}
 use Rattle.field_core.specs.declared.gf32.Gf32.{Gf32}
 use Rattle.field_core.specs.Gf32.{ops, zero_of}
 use Rattle.field_core.proofs.Blocks.{multiple_of_bits, product_at}

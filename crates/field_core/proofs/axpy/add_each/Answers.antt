@@ -1,6 +1,6 @@
 use Rattle.std.proofs.Common.{◌≡◌, ◌<◌, ◌≤◌, length, drop, sym, ap, ◌∙◌, arith, length-set}
-use Rattle.sketch_rules.specs.Elements.{product}
-use Rattle.sketch_laws.proofs.Dots.{with_multiple-more, with_multiple-done}
+use Rattle.field_rules.specs.Elements.{product}
+use Rattle.field_laws.proofs.Dots.{with_multiple-more, with_multiple-done}
 use Rattle.field_core.specs.Gf32.{ops}
 use Rattle.field_core.proofs.Blocks.{multiple_of_bits}
 use Rattle.field_core.proofs.axpy.add_each.Goals as goal

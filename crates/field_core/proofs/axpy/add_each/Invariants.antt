@@ -1,5 +1,5 @@
 use Rattle.std.proofs.Common.{◌≡◌, ◌++◌, length, take, drop}
-use Rattle.sketch_rules.specs.Fields.{with_multiple}
+use Rattle.field_rules.specs.Fields.{with_multiple}
 use Rattle.field_core.specs.declared.gf32.Gf32.{Gf32}
 use Rattle.field_core.specs.Gf32.{ops, bits_of}
 use Rattle.field_core.proofs.axpy.add_each.Given as goal

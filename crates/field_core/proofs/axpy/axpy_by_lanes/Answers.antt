@@ -1,6 +1,6 @@
 use Rattle.std.proofs.Common.{◌≡◌, ◌+◌, ◌-◌, ◌*◌, ◌/◌, ◌++◌, length, take, drop, sym, ap, ◌∙◌, arith}
 use borrow.Rule.Slice.PartMut.{put_mid}
-use Rattle.sketch_rules.specs.Fields.{with_multiple}
+use Rattle.field_rules.specs.Fields.{with_multiple}
 use Rattle.field_core.specs.Gf32.{ops}
 use Rattle.field_core.proofs.Blocks.{block_added, rest_added}
 use Rattle.field_core.proofs.axpy.axpy_by_lanes.Goals as goal

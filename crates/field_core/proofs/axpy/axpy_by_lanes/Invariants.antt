@@ -1,5 +1,5 @@
 use Rattle.std.proofs.Common.{◌≡◌, ◌*◌, ◌++◌, take, drop}
-use Rattle.sketch_rules.specs.Fields.{with_multiple}
+use Rattle.field_rules.specs.Fields.{with_multiple}
 use Rattle.field_core.specs.Gf32.{ops}
 use Rattle.field_core.proofs.axpy.axpy_by_lanes.Given as goal
 

@@ -1,5 +1,5 @@
 use Rattle.std.proofs.Common.{rules, ◌-◌, ◌*◌, ◌/◌, ◌%◌, ◌^◌, ◌<◌, bit_and, bit_xor, sym, ◌∙◌, ap, arith}
-use Rattle.sketch_laws.proofs.Carryless.{carryless_below-zero}
+use Rattle.field_laws.proofs.Carryless.{carryless_below-zero}
 use Rattle.field_core.proofs.Windows.{window-below, window-next}
 use Rattle.field_core.proofs.carryless.carryless.Goals as goal
 

@@ -1,5 +1,5 @@
 use Rattle.std.proofs.Common.{◌≡◌, ◌-◌, ◌*◌, ◌/◌, ◌^◌}
-use Rattle.sketch_rules.specs.Elements.{carryless_below}
+use Rattle.field_rules.specs.Elements.{carryless_below}
 use Rattle.field_core.proofs.carryless.carryless.Given as goal
 
 abbrev pub invariant-loop-i : goal.invariant-loop-i

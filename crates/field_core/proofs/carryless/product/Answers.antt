@@ -1,5 +1,5 @@
 use Rattle.std.proofs.Common.{◌∙◌, ap}
-use Rattle.sketch_rules.specs.Elements.{product, remainder}
+use Rattle.field_rules.specs.Elements.{product, remainder}
 use Rattle.field_core.proofs.carryless.product.Goals as goal
 
 pub returns : goal.returns

@@ -1,5 +1,5 @@
 use Rattle.std.proofs.Common.{◌<◌, ◌≤◌, length, refl, sym, ap, ◌∙◌, arith}
-use Rattle.sketch_rules.specs.Elements.{product}
+use Rattle.field_rules.specs.Elements.{product}
 use Rattle.field_core.specs.Gf32.{ops, ring, bits_of}
 use Rattle.field_core.proofs.OddPowers.{power_one, odd_power_next, odd_powers_more, odd_powers_done, times_of_bits}
 use Rattle.field_core.proofs.odd_powers.add_by_multiples.Goals as goal

@@ -1,5 +1,5 @@
 use Rattle.std.proofs.Common.{◌≡◌, ◌+◌, ◌*◌, ◌++◌, take, drop}
-use Rattle.sketch_rules.specs.Ops.{power, with_odd_powers}
+use Rattle.field_rules.specs.Ops.{power, with_odd_powers}
 use Rattle.field_core.specs.Gf32.{ops}
 use Rattle.field_core.proofs.odd_powers.add_by_multiples.Given as goal
 

@@ -1,6 +1,6 @@
 use Rattle.std.proofs.Common.{◌≡◌, ◌-◌, ◌+◌, length, take, drop, sym, ap, subst, ◌∙◌, arith, length-drop}
 use Rattle.std.proofs.lemmas.List.{take_all}
-use Rattle.sketch_rules.specs.Fields.{dot_of}
+use Rattle.field_rules.specs.Fields.{dot_of}
 use Rattle.poly_rules.specs.Polynomials.{degree}
 use Rattle.poly_rules.specs.Recurrences.{Extends}
 use Rattle.poly_ops.proofs.Extending.{extended}

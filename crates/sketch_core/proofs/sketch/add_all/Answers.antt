@@ -1,5 +1,5 @@
 use Rattle.std.proofs.Common.{◌<◌, length, sym, ◌∙◌, ap, arith}
-use Rattle.sketch_rules.specs.Ops.{with_odd_powers}
+use Rattle.field_rules.specs.Ops.{with_odd_powers}
 use Rattle.sketch_core.proofs.Sums.{sums_of_none, sums_from-take}
 use Rattle.sketch_core.proofs.sketch.add_all.Goals as goal
 

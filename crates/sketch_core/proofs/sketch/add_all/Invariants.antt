@@ -1,5 +1,5 @@
 use Rattle.std.proofs.Common.{◌≡◌, length, take}
-use Rattle.sketch_rules.specs.Ops.{sketch_by}
+use Rattle.sketch_rules.specs.PowerSums.{sketch_by}
 use Rattle.sketch_core.proofs.sketch.add_all.Given as goal
 
 abbrev pub invariant-loop-e : goal.invariant-loop-e

@@ -1,5 +1,5 @@
 use Rattle.std.proofs.Common.{take}
-use Rattle.sketch_rules.specs.Ops.{IsAllSums}
+use Rattle.sketch_rules.specs.PowerSums.{IsAllSums}
 use Rattle.sketch_core.proofs.sketch.with_even_sums.Given as goal
 
 abbrev pub invariant-loop-i : goal.invariant-loop-i

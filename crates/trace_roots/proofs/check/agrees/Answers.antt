@@ -1,5 +1,5 @@
 use Rattle.std.proofs.Common.{◌≡◌, Bool, true, false, not, arith, ◌∙◌, sym, refl}
-use Rattle.sketch_laws.proofs.Numbers.{equal_bits}
+use Rattle.field_laws.proofs.Numbers.{equal_bits}
 use Rattle.trace_roots.proofs.Answering.{agree_more}
 use Rattle.trace_roots.proofs.check.agrees.Goals as goal
 

@@ -1,6 +1,6 @@
 use Rattle.std.proofs.Common.{◌≡◌, length, map, None, Some, sym, ap, subst, ◌∙◌, arith}
 use Rattle.std.specs.Option.{option_map}
-use Rattle.sketch_rules.specs.Ops.{IsAllSums}
+use Rattle.sketch_rules.specs.PowerSums.{IsAllSums}
 use Rattle.sketch_rules.specs.Answers.{answer_at}
 use Rattle.trace_roots.proofs.Decoded.{exactly, differs, too_long}
 use Rattle.trace_roots.proofs.decoding.decode.Goals as goal

@@ -2,7 +2,7 @@ use Rattle.std.proofs.Common.{◌≡◌, ◌+◌, List, arith}
 use Rattle.std.specs.List.{All}
 use Rattle.std.proofs.lemmas.Result.{IfOk-weaker}
 use Rattle.std.proofs.lemmas.Option.{IfSome_then}
-use Rattle.sketch_rules.specs.Fields.{trace_of}
+use Rattle.field_rules.specs.Fields.{trace_of}
 use Rattle.poly_rules.specs.Polynomials.{value_at}
 use Rattle.splitting_laws.specs.Parts.{part_of, others_of}
 use Rattle.trace_roots.specs.Parts.{IsPart, IsSmaller}

@@ -1,8 +1,8 @@
 use Rattle.std.proofs.Common.{◌≡◌, ◌+◌, ◌≤◌, ◌<◌, [], length, get_or, sym, ap, subst, ◌∙◌, arith}
 use Rattle.std.proofs.lemmas.List.{get_or_default}
-use Rattle.sketch_rules.specs.Fields.{with_multiple}
+use Rattle.field_rules.specs.Fields.{with_multiple}
 use Rattle.poly_rules.specs.Polynomials.{Same}
-use Rattle.sketch_laws.proofs.Conjugates.{conjugate-none, conjugate-more}
+use Rattle.field_laws.proofs.Conjugates.{conjugate-none, conjugate-more}
 use Rattle.splitting_laws.specs.Traces.{trace_polynomial}
 use Rattle.splitting_laws.proofs.Traces.{trace_polynomial-none, trace_polynomial-more}
 use Rattle.trace_roots.proofs.traces.add_trace.Goals as goal

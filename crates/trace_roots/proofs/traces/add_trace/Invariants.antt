@@ -1,5 +1,5 @@
 use Rattle.std.proofs.Common.{◌≡◌}
-use Rattle.sketch_rules.specs.Fields.{conjugate}
+use Rattle.field_rules.specs.Fields.{conjugate}
 use Rattle.poly_rules.specs.Polynomials.{Same}
 use Rattle.splitting_laws.specs.Traces.{trace_polynomial}
 use Rattle.trace_roots.proofs.traces.add_trace.Given as goal

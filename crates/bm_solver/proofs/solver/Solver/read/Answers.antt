@@ -1,6 +1,6 @@
 use Rattle.std.proofs.Common.{◌≡◌, ◌↔◌, ◌++◌, IsTrue, length, take, drop, arith, sym, ◌∙◌}
 use Rattle.std.proofs.lemmas.List.{take_at}
-use Rattle.sketch_laws.proofs.Numbers.{equal_bits}
+use Rattle.field_laws.proofs.Numbers.{equal_bits}
 use Rattle.bm_solver.proofs.Steps.{kept, mended, grown}
 use Rattle.bm_solver.proofs.solver.Solver.read.Goals as goal
 

@@ -1,5 +1,5 @@
 use Rattle.std.proofs.Common.{◌<◌, ◌≤◌, length, drop, sym, ◌∙◌, arith, length-set}
-use Rattle.sketch_laws.proofs.Dots.{with_multiple-more, with_multiple-done}
+use Rattle.field_laws.proofs.Dots.{with_multiple-more, with_multiple-done}
 use Rattle.field_core.proofs.field.Field.axpy.Goals as goal
 
 pub loop-i-preserved : goal.loop-i-preserved

@@ -1,5 +1,5 @@
 use Rattle.std.proofs.Common.{◌≡◌, ◌++◌, length, take, drop}
-use Rattle.sketch_rules.specs.Fields.{with_multiple}
+use Rattle.field_rules.specs.Fields.{with_multiple}
 use Rattle.field_core.proofs.field.Field.axpy.Given as goal
 
 abbrev pub invariant-loop-i : goal.invariant-loop-i

@@ -1,5 +1,5 @@
 use Rattle.std.proofs.Common.{◌<◌, ◌≤◌, length, drop, sym, ◌∙◌, arith}
-use Rattle.sketch_laws.proofs.Dots.{dot_of-more, dot_of-done}
+use Rattle.field_laws.proofs.Dots.{dot_of-more, dot_of-done}
 use Rattle.field_core.proofs.field.Field.dot.Goals as goal
 
 pub loop-i-preserved : goal.loop-i-preserved

@@ -1,5 +1,5 @@
 use Rattle.std.proofs.Common.{◌≡◌, drop}
-use Rattle.sketch_rules.specs.Fields.{dot_of}
+use Rattle.field_rules.specs.Fields.{dot_of}
 use Rattle.field_core.proofs.field.Field.dot.Given as goal
 
 abbrev pub invariant-loop-i : goal.invariant-loop-i

@@ -1,9 +1,9 @@
 use Rattle.std.proofs.Common.{◌≡◌, ◌+◌, ◌-◌, ◌≤◌, sym, ap, ◌∙◌, arith}
-use Rattle.sketch_rules.specs.Fields.{conjugate}
-use Rattle.sketch_laws.proofs.Numbers.{width_positive}
-use Rattle.sketch_laws.proofs.Conjugates.{conjugate-none, conjugate-more}
-use Rattle.sketch_laws.proofs.Inverses.{norm_of, norm_of-none, norm_of-more}
-use Rattle.sketch_laws.proofs.Fields.{inverse_by_norm}
+use Rattle.field_rules.specs.Fields.{conjugate}
+use Rattle.field_laws.proofs.Numbers.{width_positive}
+use Rattle.field_laws.proofs.Conjugates.{conjugate-none, conjugate-more}
+use Rattle.field_laws.proofs.Inverses.{norm_of, norm_of-none, norm_of-more}
+use Rattle.field_laws.proofs.Fields.{inverse_by_norm}
 use Rattle.field_core.proofs.field.Field.inv.Goals as goal
 
 pub loop-init : goal.loop-init

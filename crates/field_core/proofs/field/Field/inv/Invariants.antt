@@ -1,6 +1,6 @@
 use Rattle.std.proofs.Common.{◌≡◌, ◌-◌, ◌≤◌}
-use Rattle.sketch_rules.specs.Fields.{conjugate}
-use Rattle.sketch_laws.proofs.Inverses.{norm_of}
+use Rattle.field_rules.specs.Fields.{conjugate}
+use Rattle.field_laws.proofs.Inverses.{norm_of}
 use Rattle.field_core.proofs.field.Field.inv.Given as goal
 
 abbrev pub invariant-loop : goal.invariant-loop

@@ -1,5 +1,5 @@
 use Rattle.std.proofs.Common.{◌≡◌, ◌+◌, ◌*◌, ◌++◌, take, drop}
-use Rattle.sketch_rules.specs.Ops.{power, with_odd_powers}
+use Rattle.field_rules.specs.Ops.{power, with_odd_powers}
 use Rattle.field_core.proofs.field.Field.odd_powers_into.Given as goal
 
 abbrev pub invariant-loop-a : goal.invariant-loop-a

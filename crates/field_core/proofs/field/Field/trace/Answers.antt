@@ -1,9 +1,9 @@
 use Rattle.std.proofs.Common.{◌≡◌, ◌↔◌, sym, ap, ◌∙◌, arith}
 use Rattle.std.specs.Prelude.{IsTrue}
-use Rattle.sketch_rules.specs.Fields.{trace_of}
-use Rattle.sketch_laws.proofs.Numbers.{equal_bits}
-use Rattle.sketch_laws.proofs.Conjugates.{conjugate-none, conjugate-more}
-use Rattle.sketch_laws.proofs.Traces.{trace_of-none, trace_of-more}
+use Rattle.field_rules.specs.Fields.{trace_of}
+use Rattle.field_laws.proofs.Numbers.{equal_bits}
+use Rattle.field_laws.proofs.Conjugates.{conjugate-none, conjugate-more}
+use Rattle.field_laws.proofs.Traces.{trace_of-none, trace_of-more}
 use Rattle.field_core.proofs.field.Field.trace.Goals as goal
 
 pub loop-init : goal.loop-init

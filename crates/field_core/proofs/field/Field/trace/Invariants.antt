@@ -1,5 +1,5 @@
 use Rattle.std.proofs.Common.{◌≡◌}
-use Rattle.sketch_rules.specs.Fields.{conjugate, trace_of}
+use Rattle.field_rules.specs.Fields.{conjugate, trace_of}
 use Rattle.field_core.proofs.field.Field.trace.Given as goal
 
 abbrev pub invariant-loop : goal.invariant-loop

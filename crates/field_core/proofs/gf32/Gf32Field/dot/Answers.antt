@@ -1,7 +1,7 @@
 use Rattle.std.proofs.Common.{rules, ◌^◌, ◌<◌, ◌≤◌, length, drop, sym, ◌∙◌, arith}
 use Rattle.std.specs.Int.Bits.{xor_zero_l}
-use Rattle.sketch_rules.specs.Elements.{remainder}
-use Rattle.sketch_rules.specs.Fields.{dot_of}
+use Rattle.field_rules.specs.Elements.{remainder}
+use Rattle.field_rules.specs.Fields.{dot_of}
 use Rattle.field_core.specs.Gf32.{ops, bits_of, same_bits}
 use Rattle.field_core.proofs.SumsOfProducts.{sum_more, sum_done}
 use Rattle.field_core.proofs.gf32.Gf32Field.dot.Goals as goal

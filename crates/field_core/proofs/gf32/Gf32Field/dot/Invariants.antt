@@ -1,6 +1,6 @@
 use Rattle.std.proofs.Common.{◌≡◌, drop, bit_xor}
-use Rattle.sketch_rules.specs.Elements.{remainder}
-use Rattle.sketch_rules.specs.Fields.{dot_of}
+use Rattle.field_rules.specs.Elements.{remainder}
+use Rattle.field_rules.specs.Fields.{dot_of}
 use Rattle.field_core.specs.Gf32.{ops, bits_of}
 use Rattle.field_core.proofs.gf32.Gf32Field.dot.Given as goal
 

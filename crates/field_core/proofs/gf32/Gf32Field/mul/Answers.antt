@@ -1,6 +1,6 @@
 use Rattle.std.proofs.Common.{sym, subst, lit<}
-use Rattle.sketch_rules.specs.Elements.{IsProduct}
-use Rattle.sketch_laws.proofs.Products.{product-is}
+use Rattle.field_rules.specs.Elements.{IsProduct}
+use Rattle.field_laws.proofs.Products.{product-is}
 use Rattle.field_core.proofs.gf32.Gf32Field.mul.Goals as goal
 
 pub returns-clause-product : goal.returns-clause-product

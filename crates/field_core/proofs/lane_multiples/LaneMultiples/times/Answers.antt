@@ -1,5 +1,5 @@
 use Rattle.std.proofs.Common.{◌∙◌, ap, map}
-use Rattle.sketch_rules.specs.Elements.{product}
+use Rattle.field_rules.specs.Elements.{product}
 use Rattle.field_core.proofs.LaneProducts.{words_by_bytes}
 use Rattle.field_core.proofs.lane_multiples.LaneMultiples.times.Goals as goal
 

@@ -1,6 +1,6 @@
 use Rattle.std.proofs.Common.{rules, ◌^◌, ◌<◌, length, lit<, sym, arith, refl, ◌∙◌}
 use Rattle.std.proofs.Math.ListN.{length-set}
-use Rattle.sketch_laws.proofs.Rings.{product-one}
+use Rattle.field_laws.proofs.Rings.{product-one}
 use Rattle.field_core.proofs.Nibbles.{table_is, tables_more, shifted_next}
 use Rattle.field_core.proofs.multiples.Multiples.of.Goals as goal
 

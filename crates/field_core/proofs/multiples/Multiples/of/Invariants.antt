@@ -1,5 +1,5 @@
 use Rattle.std.proofs.Common.{◌≡◌, ℕ, ◌*◌, ◌^◌, ◌<◌, [], length, slice_index_or}
-use Rattle.sketch_rules.specs.Elements.{product}
+use Rattle.field_rules.specs.Elements.{product}
 use Rattle.field_core.specs.Tables.{IsTable}
 use Rattle.field_core.proofs.multiples.Multiples.of.Given as goal
 

@@ -1,5 +1,5 @@
 use Rattle.std.proofs.Common.{rules, ℕ, ◌≡◌, ◌*◌, ◌/◌, ◌%◌, ◌^◌, ◌<◌, [], slice_index, slice_index_or, lit<, ap, ◌∙◌}
-use Rattle.sketch_rules.specs.Elements.{product}
+use Rattle.field_rules.specs.Elements.{product}
 use Rattle.field_core.proofs.Nibbles.{word_is, words_give}
 use Rattle.field_core.proofs.multiples.Multiples.times.Goals as goal
 

@@ -1,6 +1,6 @@
 use Rattle.std.proofs.Common.{length, ◌∙◌, subst}
 use Rattle.std.proofs.lemmas.Result.{IfOk-weaker}
-use Rattle.sketch_rules.specs.Ops.{IsAllSums}
+use Rattle.sketch_rules.specs.PowerSums.{IsAllSums}
 use Rattle.sketch_laws.proofs.EverySums.{every_sum-only}
 use Rattle.sketch_core.proofs.sketch.Sketch.all_sums.Goals as goal
 

@@ -1,5 +1,5 @@
 use Rattle.std.proofs.Common.{◌≡◌, ◌++◌, length, ◌∙◌, ap}
-use Rattle.sketch_rules.specs.Ops.{sketch_by}
+use Rattle.sketch_rules.specs.PowerSums.{sketch_by}
 use Rattle.sketch_laws.proofs.Parts.{sketch_by-joined}
 use Rattle.sketch_core.proofs.sketch.Sketch.join.Goals as goal
 

@@ -1,5 +1,5 @@
 use Rattle.std.proofs.Common.{◌≡◌, length, drop, ◌∙◌, ap, arith}
-use Rattle.sketch_rules.specs.Ops.{with_odd_powers}
+use Rattle.field_rules.specs.Ops.{with_odd_powers}
 use Rattle.sketch_core.proofs.Both.{written_back}
 use Rattle.sketch_core.proofs.Sums.{sums_from-more}
 use Rattle.sketch_core.proofs.sketch.Sketch.toggle.Goals as goal

@@ -3,8 +3,8 @@ use Rattle.std.proofs.Common.{◌≡◌, ℕ, suc, ◌+◌, ◌<◌, ◌≤◌, 
 use Rattle.std.proofs.Math.Seq.{drop-cons}
 use Rattle.std.proofs.Math.ListN.{drop_of_length-le}
 use Rattle.std.proofs.lemmas.List.{take_more_set, drop-set-lt, take-append-drop}
-use Rattle.sketch_rules.specs.Ops.{Ops, IsRing}
-use Rattle.sketch_rules.specs.Fields.{with_multiple, dot_of}
+use Rattle.field_rules.specs.Ops.{Ops, IsRing}
+use Rattle.field_rules.specs.Fields.{with_multiple, dot_of}
 
 -- a list from the place i on, where x is the item there
 from_place : {A : Type 0} (xs : List A) (i : ℕ) (x : A) → i < length xs → x ≡ get_or xs i x → drop i xs ≡ x ∷ drop (suc i) xs

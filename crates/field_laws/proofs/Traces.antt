@@ -1,9 +1,9 @@
 -- Traces: they keep sums, and where a ^ (2 ^ n) is a, a trace is its own square.
 use Rattle.std.proofs.Common.{◌≡◌, ℕ, zero, suc, ◌+◌, refl, sym, ap, ◌∙◌, add-one}
-use Rattle.sketch_rules.specs.Ops.{Ops, IsRing}
-use Rattle.sketch_rules.specs.Fields.{conjugate, trace_of}
-use Rattle.sketch_laws.proofs.RingFacts.{zero_times, plus_swap, plus_cancels, square_plus}
-use Rattle.sketch_laws.proofs.Conjugates.{conjugate-next, conjugate-plus}
+use Rattle.field_rules.specs.Ops.{Ops, IsRing}
+use Rattle.field_rules.specs.Fields.{conjugate, trace_of}
+use Rattle.field_laws.proofs.RingFacts.{zero_times, plus_swap, plus_cancels, square_plus}
+use Rattle.field_laws.proofs.Conjugates.{conjugate-next, conjugate-plus}
 
 module _ {A : Type 0} (ops : Ops A) (ring : IsRing ops) where
   -- no term gives 0

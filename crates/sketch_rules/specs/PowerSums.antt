@@ -1,27 +1,6 @@
--- Powers, power sums and sketches over any type with a sum and a product.
+-- Power sums and sketches over any type with a sum and a product.
 use Rattle.std.specs.Prelude.{◌≡◌, ℕ, zero, suc, ◌+◌, ◌*◌, ◌<◌, List, [], ◌∷◌, length, get_or}
-
-pub record Ops (A : Type 0) : Type 0 where
-  pub zero : A
-  pub one : A
-  pub plus : A → A → A
-  pub times : A → A → A
-
--- a commutative ring in which each element is its own negative
-pub record IsRing {A : Type 0} (ops : Ops A) : Type 0 where
-  pub plus_comm : (a b : A) → ops.plus a b ≡ ops.plus b a
-  pub plus_assoc : (a b c : A) → ops.plus (ops.plus a b) c ≡ ops.plus a (ops.plus b c)
-  pub plus_zero : (a : A) → ops.plus a ops.zero ≡ a
-  pub plus_self : (a : A) → ops.plus a a ≡ ops.zero
-  pub times_comm : (a b : A) → ops.times a b ≡ ops.times b a
-  pub times_assoc : (a b c : A) → ops.times (ops.times a b) c ≡ ops.times a (ops.times b c)
-  pub times_one : (a : A) → ops.times a ops.one ≡ a
-  pub distributes : (a b c : A) → ops.times a (ops.plus b c) ≡ ops.plus (ops.times a b) (ops.times a c)
-
--- e to the power k
-unfoldable pub power : {A : Type 0} → Ops A → A → ℕ → A
-power ops e zero = ops.one
-power ops e (suc k) = ops.times (power ops e k) e
+use Rattle.field_rules.specs.Ops.{Ops, power}
 
 -- s_k: the sum of the k-th powers of the elements
 unfoldable pub power_sum : {A : Type 0} → Ops A → ℕ → List A → A
@@ -49,8 +28,3 @@ pub record IsAllSums {A : Type 0} (ops : Ops A) (sums s : List A) : Type 0 where
   pub size : length s ≡ 2 * length sums
   pub odd : (i : ℕ) → i < length sums → get_or s (2 * i) ops.zero ≡ get_or sums i ops.zero
   pub even : (i : ℕ) → i < length sums → get_or s (2 * i + 1) ops.zero ≡ ops.times (get_or s i ops.zero) (get_or s i ops.zero)
-
--- e ^ (2i + 1) added to each item at place i, where the first of them stands at place i
-unfoldable pub with_odd_powers : {A : Type 0} → Ops A → A → ℕ → List A → List A
-with_odd_powers ops e i [] = []
-with_odd_powers ops e i (a ∷ rest) = ops.plus a (power ops e (2 * i + 1)) ∷ with_odd_powers ops e (i + 1) rest

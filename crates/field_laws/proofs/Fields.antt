@@ -7,19 +7,19 @@ use Rattle.std.proofs.Math.Pow.{pow-lt}
 use Rattle.std.proofs.lemmas.Nat.Bits.{bit_at_xor, bit_at-zero}
 use Rattle.std.proofs.lemmas.Bool.{cases_eq}
 use Rattle.std.proofs.lemmas.Bool.Decides.{Decides-eqb}
-use Rattle.sketch_rules.specs.Ops.{Ops, IsRing}
-use Rattle.sketch_rules.specs.Elements.{product, numbers}
-use Rattle.sketch_rules.specs.Fields.{conjugate, trace_of, IsField, IsToldApart}
-use Rattle.sketch_rules.specs.Numbered.{IsNumbered}
-use Rattle.sketch_laws.specs.Certified.{selected, square_and_own, solves, Certified}
-use Rattle.sketch_laws.proofs.Xors.{bit_cases, xor_swap}
-use Rattle.sketch_laws.proofs.Carryless.{xor_digits}
-use Rattle.sketch_laws.proofs.RingFacts.{times_zero, zero_times, distributes_left, same_of_sum, square_plus, plus_swap}
-use Rattle.sketch_laws.proofs.Conjugates.{conjugate-plus, conjugate-times, conjugate-one, conjugate-zero}
-use Rattle.sketch_laws.proofs.Traces.{trace_of-plus, trace_of-zero, trace_of-own}
-use Rattle.sketch_laws.proofs.Inverses.{norm_of, inverse-is, zero_factor, own_of_no_zero_divisor}
-use Rattle.sketch_laws.proofs.Numbers.{width_positive, same_or_not}
-use Rattle.sketch_laws.proofs.PowersOfX.{product-x, by_powers_of_x, conjugate-bits, trace_of-bits}
+use Rattle.field_rules.specs.Ops.{Ops, IsRing}
+use Rattle.field_rules.specs.Elements.{product, numbers}
+use Rattle.field_rules.specs.Fields.{conjugate, trace_of, IsField, IsToldApart}
+use Rattle.field_rules.specs.Numbered.{IsNumbered}
+use Rattle.field_laws.specs.Certified.{selected, square_and_own, solves, Certified}
+use Rattle.field_laws.proofs.Xors.{bit_cases, xor_swap}
+use Rattle.field_laws.proofs.Carryless.{xor_digits}
+use Rattle.field_laws.proofs.RingFacts.{times_zero, zero_times, distributes_left, same_of_sum, square_plus, plus_swap}
+use Rattle.field_laws.proofs.Conjugates.{conjugate-plus, conjugate-times, conjugate-one, conjugate-zero}
+use Rattle.field_laws.proofs.Traces.{trace_of-plus, trace_of-zero, trace_of-own}
+use Rattle.field_laws.proofs.Inverses.{norm_of, inverse-is, zero_factor, own_of_no_zero_divisor}
+use Rattle.field_laws.proofs.Numbers.{width_positive, same_or_not}
+use Rattle.field_laws.proofs.PowersOfX.{product-x, by_powers_of_x, conjugate-bits, trace_of-bits}
 
 -- ---- the table
 

@@ -1,6 +1,6 @@
 -- What a field has beside a ring's sum and product: conjugates, the trace, and what is asked of it.
 use Rattle.std.specs.Prelude.{◌≡◌, ◌≢◌, ◌⊎◌, ℕ, zero, suc, ◌<◌, ◌^◌, List, [], ◌∷◌}
-use Rattle.sketch_rules.specs.Ops.{Ops}
+use Rattle.field_rules.specs.Ops.{Ops}
 
 -- a to the power 2 ^ n: a, squared n times
 unfoldable pub conjugate : {A : Type 0} → Ops A → ℕ → A → A

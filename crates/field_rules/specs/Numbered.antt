@@ -1,7 +1,7 @@
 -- A field whose elements are told by their bits.
 use Rattle.std.specs.Prelude.{◌≡◌, ℕ, ◌^◌, ◌<◌, bit_xor}
-use Rattle.sketch_rules.specs.Ops.{Ops}
-use Rattle.sketch_rules.specs.Elements.{product}
+use Rattle.field_rules.specs.Ops.{Ops}
+use Rattle.field_rules.specs.Elements.{product}
 
 -- bits_of reads the elements as the numbers below 2 ^ width, each number once, and the operations as those on numbers
 pub record IsNumbered {A : Type 0} (ops : Ops A) (bits_of : A → ℕ) (width : ℕ) : Type 0 where

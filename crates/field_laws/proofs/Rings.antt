@@ -2,13 +2,13 @@
 use Rattle.std.proofs.Common.{◌≡◌, ℕ, ◌+◌, ◌^◌, ◌<◌, sym, ap, subst, ◌∙◌, arith, Bool, true, false, ◌==◌, if◌then◌else◌}
 use Rattle.std.specs.Int.Bits.{bit_xor, xor_self, xor_zero_r, xor_comm, xor_assoc, xor_lt}
 use Rattle.std.proofs.Math.Nat.{mod-eq_of_lt}
-use Rattle.sketch_rules.specs.Ops.{Ops, IsRing}
-use Rattle.sketch_rules.specs.Elements.{carryless_below, IsWidth, product, remainder}
-use Rattle.sketch_rules.specs.Numbered.{IsNumbered}
-use Rattle.sketch_laws.specs.Rests.{IsRest}
-use Rattle.sketch_laws.proofs.Carryless.{carryless_below-comm, carryless_below-assoc, carryless_below-lt, carryless_below-one_l, carryless_below-xor_r}
-use Rattle.sketch_laws.proofs.Remainders.{rest_self, rest_trans, rest_times, rest_xor, rest_only}
-use Rattle.sketch_laws.proofs.Products.{product-below, product_is_rest}
+use Rattle.field_rules.specs.Ops.{Ops, IsRing}
+use Rattle.field_rules.specs.Elements.{carryless_below, IsWidth, product, remainder}
+use Rattle.field_rules.specs.Numbered.{IsNumbered}
+use Rattle.field_laws.specs.Rests.{IsRest}
+use Rattle.field_laws.proofs.Carryless.{carryless_below-comm, carryless_below-assoc, carryless_below-lt, carryless_below-one_l, carryless_below-xor_r}
+use Rattle.field_laws.proofs.Remainders.{rest_self, rest_trans, rest_times, rest_xor, rest_only}
+use Rattle.field_laws.proofs.Products.{product-below, product_is_rest}
 
 -- 1 is an element at each width
 pub one_fits : (width : ℕ) → IsWidth width → 1 < 2 ^ width

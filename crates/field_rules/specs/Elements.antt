@@ -1,7 +1,7 @@
 -- Field elements as numbers: a number is the polynomial over GF(2) that has bit i as the coefficient of x ^ i.
 use Rattle.std.specs.Prelude.{◌≡◌, ℕ, zero, suc, ◌+◌, ◌*◌, ◌^◌, ◌<◌, ◌==◌, if◌then◌else◌, bit_xor}
 use Rattle.std.specs.Int.{bit_at}
-use Rattle.sketch_rules.specs.Ops.{Ops}
+use Rattle.field_rules.specs.Ops.{Ops}
 
 -- the exclusive or of a * 2 ^ i over the places i below n at which b has a 1: where b is below 2 ^ n, the product of
 -- the two polynomials, which is the product without carries

@@ -1,8 +1,8 @@
 -- The tests of the field of 2 ^ 32 elements. The table and the element are those that bench/tables.py prints.
 use Rattle.std.proofs.Common.{◌≡◌, ℕ, true, List, [], ◌∷◌, refl, lit<}
-use Rattle.sketch_rules.specs.Elements.{carryless_below, remainder, product, numbers}
-use Rattle.sketch_rules.specs.Fields.{conjugate, trace_of}
-use Rattle.sketch_laws.specs.Certified.{selected, solves, Certified}
+use Rattle.field_rules.specs.Elements.{carryless_below, remainder, product, numbers}
+use Rattle.field_rules.specs.Fields.{conjugate, trace_of}
+use Rattle.field_laws.specs.Certified.{selected, solves, Certified}
 
 -- undoes e ^ 2 + e, but for the lowest bit
 abbrev table_32 : List ℕ

@@ -1,8 +1,8 @@
 -- What is computed of a width, so that the numbers below 2 ^ width are a field: three tests and a table.
 use Rattle.std.specs.Prelude.{◌≡◌, ℕ, zero, suc, ◌+◌, ◌-◌, ◌*◌, ◌^◌, ◌<◌, ◌==◌, ◌&&◌, Bool, true, List, [], ◌∷◌, bit_xor}
 use Rattle.std.specs.Int.{bit_at}
-use Rattle.sketch_rules.specs.Elements.{IsWidth, product, numbers}
-use Rattle.sketch_rules.specs.Fields.{conjugate, trace_of}
+use Rattle.field_rules.specs.Elements.{IsWidth, product, numbers}
+use Rattle.field_rules.specs.Fields.{conjugate, trace_of}
 
 -- the exclusive or of the table's numbers at the places at which v has a 1, where the first of them stands at place i
 unfoldable pub selected : ℕ → List ℕ → ℕ → ℕ

@@ -1,6 +1,6 @@
 -- What follows from the laws of a ring in which each element is its own negative.
 use Rattle.std.proofs.Common.{◌≡◌, sym, ap, ◌∙◌}
-use Rattle.sketch_rules.specs.Ops.{Ops, IsRing}
+use Rattle.field_rules.specs.Ops.{Ops, IsRing}
 
 module _ {A : Type 0} (ops : Ops A) (ring : IsRing ops) where
   -- 0 on the left

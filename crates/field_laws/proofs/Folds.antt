@@ -3,12 +3,12 @@ use Rattle.std.proofs.Common.{◌≡◌, ℕ, ◌+◌, ◌*◌, ◌/◌, ◌%◌
 use Rattle.std.specs.Int.Bits.{bit_xor, xor_zero_r, xor_zero_l, xor_comm, xor_self, xor_lt}
 use Rattle.std.proofs.Math.Nat.{zero-mul, one-mul, mul-one, le_trans, le_refl, mod-lt}
 use Rattle.std.proofs.lemmas.Nat.{pow_pos, shr_below}
-use Rattle.sketch_rules.specs.Elements.{carryless_below, low_terms, IsWidth, product}
-use Rattle.sketch_laws.specs.Rests.{IsRest}
-use Rattle.sketch_laws.proofs.Xors.{xor_split, xor_swap}
-use Rattle.sketch_laws.proofs.Carryless.{carryless_below-enough, carryless_below-lt}
-use Rattle.sketch_laws.proofs.Remainders.{multiple_split, rest_trans}
-use Rattle.sketch_laws.proofs.Products.{rest_is_the_product}
+use Rattle.field_rules.specs.Elements.{carryless_below, low_terms, IsWidth, product}
+use Rattle.field_laws.specs.Rests.{IsRest}
+use Rattle.field_laws.proofs.Xors.{xor_split, xor_swap}
+use Rattle.field_laws.proofs.Carryless.{carryless_below-enough, carryless_below-lt}
+use Rattle.field_laws.proofs.Remainders.{multiple_split, rest_trans}
+use Rattle.field_laws.proofs.Products.{rest_is_the_product}
 
 -- one fold at any width
 pub fold_rest : (width p : ℕ) → IsWidth width → IsRest width p (bit_xor (p % 2 ^ width) (carryless_below width (p / 2 ^ width) (low_terms width)))

@@ -1,10 +1,10 @@
 -- The product of two elements of a field: it is one number, and it is below 2 ^ width.
 use Rattle.std.proofs.Common.{◌≡◌, ℕ, ◌*◌, ◌^◌, ◌<◌, ◌∙◌, ap, subst, sym}
 use Rattle.std.proofs.Math.Nat.{one-mul, mod-eq_of_lt}
-use Rattle.sketch_rules.specs.Elements.{carryless_below, IsWidth, IsProduct, product}
-use Rattle.sketch_laws.specs.Rests.{IsRest}
-use Rattle.sketch_laws.proofs.Carryless.{carryless_below-lt, carryless_below-one_l, carryless_below-shl_l}
-use Rattle.sketch_laws.proofs.Remainders.{rest_self, rest_only, remainder-below, remainder_is_rest}
+use Rattle.field_rules.specs.Elements.{carryless_below, IsWidth, IsProduct, product}
+use Rattle.field_laws.specs.Rests.{IsRest}
+use Rattle.field_laws.proofs.Carryless.{carryless_below-lt, carryless_below-one_l, carryless_below-shl_l}
+use Rattle.field_laws.proofs.Remainders.{rest_self, rest_only, remainder-below, remainder_is_rest}
 
 -- the product is an element
 pub product-below : (width a b : ℕ) → IsWidth width → a < 2 ^ width → b < 2 ^ width → product width a b < 2 ^ width

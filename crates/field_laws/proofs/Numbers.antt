@@ -4,8 +4,8 @@ use Rattle.std.specs.Prelude.{IsTrue, nat_eq}
 use Rattle.std.proofs.Math.Nat.{lt_irrefl}
 use Rattle.std.proofs.lemmas.Bool.{cases_eq}
 use Rattle.std.proofs.lemmas.Bool.Decides.{Decides-eqb}
-use Rattle.sketch_rules.specs.Ops.{Ops}
-use Rattle.sketch_rules.specs.Numbered.{IsNumbered}
+use Rattle.field_rules.specs.Ops.{Ops}
+use Rattle.field_rules.specs.Numbered.{IsNumbered}
 
 module _ {A : Type 0} (ops : Ops A) (bits_of : A → ℕ) (width : ℕ) (numbered : IsNumbered ops bits_of width) where
   -- an element has a bit

@@ -5,8 +5,8 @@ use Rattle.std.specs.Int.{bit_at}
 use Rattle.std.proofs.Math.Nat.{zero-mul, one-mul, mul-one, mod-one, add-zero, add_comm, mod-eq_of_lt, mul_assoc, mul_comm, mul-mod_left, le_refl, le_trans, div-eq_of_lt}
 use Rattle.std.proofs.lemmas.Nat.{pow_pos, pow-add, shr-shr, shl_below, shr_split, shl-shr}
 use Rattle.std.proofs.lemmas.Nat.Bits.{bit_at_xor, bit_at-zero, bit_at_cat_low}
-use Rattle.sketch_rules.specs.Elements.{carryless_below}
-use Rattle.sketch_laws.proofs.Xors.{bit_cases, xor_shl, xor_taken, xor_swap, xor_next}
+use Rattle.field_rules.specs.Elements.{carryless_below}
+use Rattle.field_laws.proofs.Xors.{bit_cases, xor_shl, xor_taken, xor_swap, xor_next}
 
 -- no places give 0
 pub carryless_below-zero : (a b : ℕ) → carryless_below 0 a b ≡ 0

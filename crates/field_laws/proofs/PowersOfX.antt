@@ -5,15 +5,15 @@ use Rattle.std.proofs.Math.Nat.{one-mul, le_refl, mod-eq_of_lt, pow-suc, mul_com
 use Rattle.std.proofs.Math.Pow.{pow-lt}
 use Rattle.std.proofs.lemmas.Nat.{shr_high}
 use Rattle.std.proofs.lemmas.Bool.{cases_lt}
-use Rattle.sketch_rules.specs.Ops.{Ops}
-use Rattle.sketch_rules.specs.Elements.{carryless_below, IsWidth, product, numbers}
-use Rattle.sketch_rules.specs.Fields.{conjugate, trace_of}
-use Rattle.sketch_rules.specs.Numbered.{IsNumbered}
-use Rattle.sketch_laws.specs.Rests.{IsRest}
-use Rattle.sketch_laws.proofs.Xors.{xor_twice, top_cancels}
-use Rattle.sketch_laws.proofs.Carryless.{carryless_below-shl_l, carryless_below-one_l}
-use Rattle.sketch_laws.proofs.Remainders.{rest_self, rest_only}
-use Rattle.sketch_laws.proofs.Products.{product_is_rest, product-below}
+use Rattle.field_rules.specs.Ops.{Ops}
+use Rattle.field_rules.specs.Elements.{carryless_below, IsWidth, product, numbers}
+use Rattle.field_rules.specs.Fields.{conjugate, trace_of}
+use Rattle.field_rules.specs.Numbered.{IsNumbered}
+use Rattle.field_laws.specs.Rests.{IsRest}
+use Rattle.field_laws.proofs.Xors.{xor_twice, top_cancels}
+use Rattle.field_laws.proofs.Carryless.{carryless_below-shl_l, carryless_below-one_l}
+use Rattle.field_laws.proofs.Remainders.{rest_self, rest_only}
+use Rattle.field_laws.proofs.Products.{product_is_rest, product-below}
 
 -- the product of a power of x by x is the next one
 pub product-x : (width j : ℕ) → IsWidth width → suc j < width → product width (2 ^ j) 2 ≡ 2 ^ suc j

@@ -1,6 +1,6 @@
 -- Both clauses are lemmas.
-use Rattle.sketch_laws.proofs.Products.{product-is, product-only}
-use Rattle.sketch_laws.proofs.one_product.Goals as goal
+use Rattle.field_laws.proofs.Products.{product-is, product-only}
+use Rattle.field_laws.proofs.one_product.Goals as goal
 
 pub returns-clause-exists : goal.returns-clause-exists
 returns-clause-exists c = product-is

@@ -1,9 +1,9 @@
 -- Inverses: a ^ (2 ^ n - 2), where a ^ (2 ^ n) is a and only 0 and 1 are their own squares.
 use Rattle.std.proofs.Common.{◌≡◌, ◌≢◌, ◌⊎◌, inl, inr, ℕ, zero, suc, ◌+◌, refl, sym, ap, ◌∙◌, add-one}
-use Rattle.sketch_rules.specs.Ops.{Ops, IsRing}
-use Rattle.sketch_rules.specs.Fields.{conjugate}
-use Rattle.sketch_laws.proofs.RingFacts.{one_times, times_zero, same_of_sum}
-use Rattle.sketch_laws.proofs.Conjugates.{conjugate-next}
+use Rattle.field_rules.specs.Ops.{Ops, IsRing}
+use Rattle.field_rules.specs.Fields.{conjugate}
+use Rattle.field_laws.proofs.RingFacts.{one_times, times_zero, same_of_sum}
+use Rattle.field_laws.proofs.Conjugates.{conjugate-next}
 
 -- the product of a, a ^ 2, a ^ 4, .. of n factors, which is a ^ (2 ^ n - 1)
 unfoldable pub norm_of : {A : Type 0} → Ops A → ℕ → A → A

@@ -1,9 +1,9 @@
 -- Conjugates: the power by 2 ^ n keeps sums and products.
 use Rattle.std.proofs.Common.{◌≡◌, ℕ, zero, suc, ◌+◌, ◌^◌, refl, sym, ap, ◌∙◌, arith, add-one}
 use Rattle.std.proofs.Math.Nat.{pow-suc}
-use Rattle.sketch_rules.specs.Ops.{Ops, IsRing, power}
-use Rattle.sketch_rules.specs.Fields.{conjugate}
-use Rattle.sketch_laws.proofs.RingFacts.{one_times, square_plus, times_swap}
+use Rattle.field_rules.specs.Ops.{Ops, IsRing, power}
+use Rattle.field_rules.specs.Fields.{conjugate}
+use Rattle.field_laws.proofs.RingFacts.{one_times, square_plus, times_swap}
 
 -- no squaring
 pub conjugate-none : {A : Type 0} (ops : Ops A) (a : A) → conjugate ops 0 a ≡ a

@@ -4,10 +4,10 @@ use Rattle.std.specs.Int.Bits.{bit_xor, xor_self, xor_zero_l, xor_comm, xor_asso
 use Rattle.std.specs.Int.{bit_at}
 use Rattle.std.proofs.Math.Nat.{zero-mul, one-mul, zero-div, mod-eq_of_lt, add-mul, div-eq_of_lt, pow-suc}
 use Rattle.std.proofs.lemmas.Nat.{pow-add, shl_below, shr_below, shr_high, mod_low, shl-shr}
-use Rattle.sketch_rules.specs.Elements.{carryless_below, low_terms, modulus, IsWidth, remainder}
-use Rattle.sketch_laws.specs.Rests.{IsRest}
-use Rattle.sketch_laws.proofs.Xors.{bit_cases, xor_swap, xor_twice, xor_same, top_cancels}
-use Rattle.sketch_laws.proofs.Carryless.{carryless_below-suc, carryless_below-xor_l, carryless_below-zero_l, carryless_below-bit_l, carryless_below-low, carryless_below-lt_sharp, carryless_below-comm, carryless_below-assoc}
+use Rattle.field_rules.specs.Elements.{carryless_below, low_terms, modulus, IsWidth, remainder}
+use Rattle.field_laws.specs.Rests.{IsRest}
+use Rattle.field_laws.proofs.Xors.{bit_cases, xor_swap, xor_twice, xor_same, top_cancels}
+use Rattle.field_laws.proofs.Carryless.{carryless_below-suc, carryless_below-xor_l, carryless_below-zero_l, carryless_below-bit_l, carryless_below-low, carryless_below-lt_sharp, carryless_below-comm, carryless_below-assoc}
 
 -- ---- multiples of 2 ^ width + l
 

@@ -1,0 +1,17 @@
+pub mod Carryless
+pub mod Certified32
+pub mod Conjugates
+pub mod Dots
+pub mod Fields
+pub mod Folds
+pub mod Inverses
+pub mod NumberedLists
+pub mod Numbers
+pub mod PowersOfX
+pub mod Products
+pub mod Remainders
+pub mod RingFacts
+pub mod Rings
+pub mod Traces
+pub mod Weights
+pub mod Xors

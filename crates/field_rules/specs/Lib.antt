@@ -1,0 +1,4 @@
+pub mod Ops
+pub mod Fields
+pub mod Elements
+pub mod Numbered

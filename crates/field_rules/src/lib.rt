@@ -1,0 +1,2 @@
+//! The definitions of a field, of traces and of elements as numbers, in `specs/`. There is no code here.
+#![tactic(auto)]
