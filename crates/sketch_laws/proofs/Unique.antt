@@ -1,6 +1,6 @@
 -- A sketch has at most one answer.
 use Rattle.std.proofs.Common.{◌≡◌, ◌≢◌, ◌⊎◌, ℕ, suc, ◌+◌, ◌*◌, ◌^◌, ◌<◌, ◌≤◌, List, [], ◌∷◌, length, get_or, map, refl, sym, ap, subst, ◌∙◌, arith}
-use Rattle.std.specs.Prelude.{Option, Some, None}
+use Rattle.std.specs.Prelude.{◌↔◌, Option, Some, None}
 use Rattle.std.specs.Int.Bits.{bit_xor, xor_self}
 use Rattle.std.specs.List.{All, AllPairs}
 use Rattle.std.proofs.lemmas.List.{length-map, get_or-map}
@@ -12,6 +12,8 @@ use Rattle.sketch_rules.specs.PowerSums.{power_sum, sketch_by}
 use Rattle.sketch_rules.specs.Sets.{difference}
 use Rattle.sketch_rules.specs.Sketches.{sketch_at}
 use Rattle.sketch_rules.specs.Answers.{Rises, Answer, answer_at, answer_at-some, answer_at-none}
+use Rattle.field_laws.specs.Certified.{Certified}
+use Rattle.field_laws.proofs.FieldOfNumbers.{bits_of, field, numbered, ops, ring}
 use Rattle.field_laws.proofs.NumberedLists.{elements_of, same_elements, distinct}
 use Rattle.field_laws.proofs.Weights.{lone_weight}
 use Rattle.sketch_laws.proofs.EverySums.{sums_zero, get_or-sums_from, length-sums_from}
@@ -114,3 +116,17 @@ module _ {A : Type 0} (ops : Ops A) (bits_of : A → ℕ) (width : ℕ) (ring : 
       same_elements ops bits_of width numbered xs ys
       (answer_unique (map bits_of (sketch_by ops xs c)) (map bits_of xs) (map bits_of ys) (answer_of_elements xs c xs_rise xs_nonzero xs_few)
       (subst (λ ms. Answer width (map bits_of ms) (map bits_of ys)) (sym same) (answer_of_elements ys c ys_rise ys_nonzero ys_few)))
+
+-- ---- over numbers alone
+
+-- at a width that passes the tests a sketch has at most one answer
+pub numbers_unique : (width : ℕ) → Certified width → (sums xs ys : List ℕ) → Answer width sums xs → Answer width sums ys → xs ≡ ys
+numbers_unique width certified =
+    answer_unique (ops width certified.is_width) (bits_of width) width (ring width certified.is_width) (field width certified) (numbered width certified.is_width)
+
+-- which is what answer_at gives, exactly where there is one
+pub answer_at-exactly : (width : ℕ) → Certified width → (sums es : List ℕ) → (answer_at width sums ≡ Some es) ↔ Answer width sums es
+answer_at-exactly width certified sums es = (
+  answer_at-some width sums es,
+  answer_at-is (ops width certified.is_width) (bits_of width) width (ring width certified.is_width) (field width certified) (numbered width certified.is_width) sums es,
+)
