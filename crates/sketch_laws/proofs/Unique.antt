@@ -8,6 +8,7 @@ use Rattle.field_rules.specs.Ops.{Ops, IsRing}
 use Rattle.field_rules.specs.Elements.{numbers}
 use Rattle.field_rules.specs.Fields.{IsField}
 use Rattle.field_rules.specs.Numbered.{IsNumbered}
+use Rattle.field_rules.specs.Lists.{AreDistinct}
 use Rattle.sketch_rules.specs.PowerSums.{power_sum, sketch_by}
 use Rattle.sketch_rules.specs.Sets.{difference}
 use Rattle.sketch_rules.specs.Sketches.{sketch_at}
@@ -26,7 +27,7 @@ use Rattle.sketch_laws.proofs.Weights.{weighted-own}
 
 module _ {A : Type 0} (ops : Ops A) (ring : IsRing ops) (no_zero_divisor : (a b : A) → ops.times a b ≡ ops.zero → (a ≡ ops.zero) ⊎ (b ≡ ops.zero)) where
   -- of at most 2c distinct elements whose sums of odd powers below 2c are zero, each is zero
-  pub all_zero : (es : List A) (c : ℕ) → AllPairs (λ a b. a ≢ b) es → length es ≤ 2 * c → ((i : ℕ) → i < c → power_sum ops (2 * i + 1) es ≡ ops.zero)
+  pub all_zero : (es : List A) (c : ℕ) → AreDistinct es → length es ≤ 2 * c → ((i : ℕ) → i < c → power_sum ops (2 * i + 1) es ≡ ops.zero)
       → (i : ℕ) (d : A) → i < length es → get_or es i d ≡ ops.zero
   all_zero es c differ few none =
       lone_weight ops ring no_zero_divisor (λ e. e) es differ
@@ -53,7 +54,7 @@ module _ {A : Type 0} (ops : Ops A) (bits_of : A → ℕ) (width : ℕ) (ring : 
           ∙ none i lt
           ∙ sym numbered.zero_bits)
 
-      differ : AllPairs (λ a b. a ≢ b) made.0
+      differ : AreDistinct made.0
       differ = distinct ops bits_of width numbered made.0 (subst (AllPairs (λ a b. a < b)) (sym made.1) (AllPairs-from_Rises 1 (2 ^ width) (n ∷ ns) rises))
 
       no_head : n ≡ 0

@@ -6,6 +6,7 @@ ghost use Rattle.std.specs.List.{All, AllPairs, Contains};
 ghost use Rattle.field_rules.specs.Ops.{Ops, IsRing};
 ghost use Rattle.field_rules.specs.Fields.{IsField};
 ghost use Rattle.field_rules.specs.Numbered.{IsNumbered};
+ghost use Rattle.field_rules.specs.Lists.{AreDistinct};
 ghost use Rattle.sketch_rules.specs.PowerSums.{sketch_by};
 ghost use Rattle.sketch_rules.specs.Sets.{difference};
 ghost use Rattle.sketch_rules.specs.Sketches.{merged, sketch_at};
@@ -14,9 +15,9 @@ ghost use Rattle.sketch_rules.specs.Answers.{Answer, answer_at, answer_of};
 /// The difference of two sets is strictly ascending and holds the numbers that are in exactly one of them, and its
 /// sketch is the sum of their sketches. It does nothing when it runs: its contract is the theorem.
 pub fn difference_of_sets()
-    ensures rises { (xs ys : List ℕ) → AllPairs (λ a b. a ≢ b) xs → AllPairs (λ a b. a ≢ b) ys → AllPairs (λ a b. a < b) (difference xs ys) }
+    ensures rises { (xs ys : List ℕ) → AreDistinct xs → AreDistinct ys → AllPairs (λ a b. a < b) (difference xs ys) }
     ensures holds { (xs ys : List ℕ) (n : ℕ) → Contains (difference xs ys) n ↔ ((Contains xs n × (¬ Contains ys n)) ⊎ (Contains ys n × (¬ Contains xs n))) }
-    ensures sketches { (width : ℕ) (xs ys : List ℕ) (c : ℕ) → AllPairs (λ a b. a ≢ b) xs → AllPairs (λ a b. a ≢ b) ys
+    ensures sketches { (width : ℕ) (xs ys : List ℕ) (c : ℕ) → AreDistinct xs → AreDistinct ys
         → merged (sketch_at width xs c) (sketch_at width ys c) ≡ sketch_at width (difference xs ys) c }
 {}
 
