@@ -12,7 +12,7 @@ import sys
 sys.dont_write_bytecode = True
 from timed import is_kept, lines_of
 
-USES = ["base_types", "field_core", "poly_ops", "poly_rules", "sketch_rules"]
+USES = ["base_types", "field_core", "poly_ops", "poly_rules"]
 
 PROGRAM = r'''//! Times calls of the libraries.
 #![tactic(auto)]

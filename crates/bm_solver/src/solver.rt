@@ -1,7 +1,8 @@
 //! The search for the shortest recurrence.
 
 ghost use Rattle.std.specs.Prelude.{◌≡◌, ◌≢◌, ◌+◌, ◌*◌, ◌<◌, ◌≤◌, List, ◌∷◌, ◌++◌, length, replicate, reverse, IfOk};
-ghost use Rattle.std.specs.List.{All, AllPairs};
+ghost use Rattle.std.specs.List.{All};
+ghost use Rattle.field_rules.specs.Lists.{AreDistinct};
 ghost use Rattle.sketch_rules.specs.PowerSums.{every_sum};
 ghost use Rattle.poly_rules.specs.Polynomials.{sum_of, scaled};
 ghost use Rattle.poly_rules.specs.Recurrences.{IsShortest};
@@ -20,7 +21,7 @@ use std::mem;
 pub fn shortest<F: Field>(alloc: Global, sums: &[F]) -> Result<Locator<F>, OutOfMemory>
     ensures shortest { IfOk result (λ locator. IsShortest F.ops locator sums.now) }
     ensures within { IfOk result (λ locator. length locator ≤ length sums.now) }
-    ensures set { (es : List F) → AllPairs (λ a b. a ≢ b) es → All (λ e. e ≢ F.ops.zero) es → 2 * length es ≤ length sums.now
+    ensures set { (es : List F) → AreDistinct es → All (λ e. e ≢ F.ops.zero) es → 2 * length es ≤ length sums.now
         → sums.now ≡ every_sum F.ops es 1 (length sums.now)
         → IfOk result (λ locator. (length locator ≡ length es) × (reverse (F.ops.one ∷ locator) ≡ with_roots F.ops es)) }
 {

@@ -7,20 +7,14 @@ use Rattle.std.proofs.lemmas.List.{get_or_default}
 use Rattle.std.proofs.lemmas.List.Elements.{Contains-append_left, Contains-append_right}
 use Rattle.std.specs.List.{Contains}
 use Rattle.std.specs.List.Sorted.{IsNonDecreasing}
-use Rattle.element_lines.specs.Repeats.{AreDistinct, HasRepeats}
+use Rattle.field_rules.specs.Lists.{AreDistinct}
+use Rattle.element_lines.specs.Repeats.{HasRepeats}
 
 -- what was found up to place i
 pub record Found (sorted : List ℕ) (i : ℕ) (found : List ℕ) : Type 0 where
   pub rising : IsNonDecreasing found
   pub below : (k d : ℕ) → k < length found → get_or found k d ≤ get_or sorted (i - 1) 0
   pub covers : (k : ℕ) → k + 1 < i → get_or sorted k 0 ≡ get_or sorted (k + 1) 0 → Contains found (get_or sorted k 0)
-
-pub found_none : (sorted : List ℕ) → Found sorted 1 []
-found_none sorted = record {
-  rising = λ a b d before within. absurd (omega arith);
-  below = λ k d within. absurd (omega arith);
-  covers = λ k before same. absurd (omega arith);
-}
 
 -- a number at the end that is at least each other
 rising-push : (xs : List ℕ) (y : ℕ) → IsNonDecreasing xs → ((k d : ℕ) → k < length xs → get_or xs k d ≤ y) → IsNonDecreasing (xs ++ y ∷ [])

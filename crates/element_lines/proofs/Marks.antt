@@ -1,14 +1,15 @@
 -- The places of numbers among the sorted ones, and the marks there.
-use Rattle.std.proofs.Common.{◌≡◌, ◌≢◌, ℕ, ◌+◌, ◌<◌, ◌≤◌, Bool, true, false, List, [], ◌∷◌, length, take, get_or, replicate, sym, ap, ◌∙◌, arith, subst, ⊎_elim, take_all}
+use Rattle.std.proofs.Common.{◌≡◌, ◌≢◌, ℕ, ◌+◌, ◌<◌, ◌≤◌, Bool, true, false, List, [], ◌∷◌, length, take, get_or, sym, ap, ◌∙◌, arith, subst, ⊎_elim, take_all}
 use Rattle.std.proofs.Math.ListN.{set, length-set, length-take}
-use Rattle.std.proofs.lemmas.List.{get_or_default, get_or-set_same, get_or-set_other, get_or-replicate, length-replicate, get_or-take, take_more}
+use Rattle.std.proofs.lemmas.List.{get_or_default, get_or-set_same, get_or-set_other, get_or-take, take_more}
 use Rattle.std.proofs.lemmas.List.Elements.{Contains-append_left, Contains-append_right}
 use Rattle.std.proofs.lemmas.List.Quantifiers.{all_pairs_push}
 use Rattle.std.proofs.lemmas.Bool.{cases_eq, false≢true, ltb-true, ltb-false}
 use Rattle.std.specs.Prelude.{nat_lt}
 use Rattle.std.specs.List.{Contains}
 use Rattle.std.specs.List.Sorted.{IsNonDecreasing, IsPartitionPoint}
-use Rattle.element_lines.specs.Repeats.{AreDistinct, HasRepeats, IsFirstRepeat, IsPlace}
+use Rattle.field_rules.specs.Lists.{AreDistinct}
+use Rattle.element_lines.specs.Repeats.{HasRepeats, IsFirstRepeat, IsPlace}
 
 -- the place up to which the numbers are smaller is that of a number which is there
 place_from : (xs : List ℕ) (x place : ℕ) → IsNonDecreasing xs → Contains xs x → IsPartitionPoint (λ y. nat_lt y x ≡ true) (λ y. nat_lt y x ≡ false) xs place → IsPlace xs x place
@@ -43,14 +44,6 @@ pub record Marks (xs sorted : List ℕ) (i : ℕ) (marks : List Bool) : Type 0 w
   pub sound : (p : ℕ) → p < length sorted → get_or marks p false ≡ true → Contains (take i xs) (get_or sorted p 0)
   pub full : (k p : ℕ) → k < i → IsPlace sorted (get_or xs k 0) p → get_or marks p false ≡ true
   pub fresh : AreDistinct (take i xs)
-
-pub marks_none : (xs sorted : List ℕ) → Marks xs sorted 0 (replicate (length sorted) false)
-marks_none xs sorted = record {
-  sized = length-replicate (length sorted) false;
-  sound = λ p p_in marked. absurd (false≢true (sym (get_or-replicate (length sorted) p false false p_in) ∙ marked));
-  full = λ k p before place. absurd (omega arith);
-  fresh = λ a b d before within. absurd (omega arith);
-}
 
 more_of : (xs : List ℕ) (i y : ℕ) → i < length xs → Contains (take i xs) y → Contains (take (i + 1) xs) y
 more_of xs i y within there = rw (take_more xs i 0 within) (Contains-append_left (take i xs) (get_or xs i 0 ∷ []) y there)

@@ -9,12 +9,13 @@ use Rattle.std.proofs.lemmas.List.Folds.{list_any_at, list_any_none}
 use Rattle.base_types.specs.declared.text.Kind.{Kind}
 use Rattle.base_types.specs.declared.text.Kind.TheVariants as kind
 use Rattle.base_types.specs.declared.text.TextFault.{TextFault}
+use Rattle.field_rules.specs.Lists.{AreDistinct}
 use Rattle.line_rules.specs.Lines.{Line, lines_of}
 use Rattle.line_rules.specs.Reading.{read_lines}
 use Rattle.text_rules.specs.Elements.{element_of, put_in, set_in}
 use Rattle.text_lines.proofs.Steps.{read_lines-none, read_lines-step, read_lines-fault}
 use Rattle.element_lines.specs.Readings.{elements_before, first_unspelled}
-use Rattle.element_lines.specs.Repeats.{AreDistinct, IsFirstRepeat}
+use Rattle.element_lines.specs.Repeats.{IsFirstRepeat}
 use Rattle.element_lines.proofs.Spelled.{by_element, elements_before-more, elements_before-end, elements_before-none, first_unspelled-more, first_unspelled-end, first_unspelled-none}
 
 -- what a line makes of the set so far

@@ -1,10 +1,7 @@
 -- The first of some numbers that repeats an earlier one.
-use Rattle.std.specs.Prelude.{◌≡◌, ◌≢◌, ◌<◌, ℕ, List, length, take, slice_index}
+use Rattle.std.specs.Prelude.{◌≡◌, ◌<◌, ℕ, List, length, take, slice_index}
 use Rattle.std.specs.List.{AllPairs, AllWithin, Contains}
-
--- no two numbers are equal
-abbrev pub AreDistinct : List ℕ → Type 0
-AreDistinct xs = AllPairs (λ a b. a ≢ b) xs
+use Rattle.field_rules.specs.Lists.{AreDistinct}
 
 -- each number that xs has twice is among `repeats`
 abbrev pub HasRepeats : List ℕ → List ℕ → Type 0

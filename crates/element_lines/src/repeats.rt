@@ -3,7 +3,8 @@
 ghost use Rattle.std.specs.Prelude.{◌≡◌, IfOk, MatchOption};
 ghost use Rattle.std.specs.List.{Contains};
 ghost use Rattle.std.specs.List.Sorted.{IsNonDecreasing};
-ghost use Rattle.element_lines.specs.Repeats.{AreDistinct, HasRepeats, IsFirstRepeat, IsPlace};
+ghost use Rattle.field_rules.specs.Lists.{AreDistinct};
+ghost use Rattle.element_lines.specs.Repeats.{HasRepeats, IsFirstRepeat, IsPlace};
 
 use std::alloc::{AllocError, Global};
 

@@ -1,7 +1,8 @@
 //! The set that a text lists.
 
-ghost use Rattle.std.specs.Prelude.{◌≡◌, ◌≢◌, ◌<◌, ◌^◌, map, IfOk};
-ghost use Rattle.std.specs.List.{All, AllPairs};
+ghost use Rattle.std.specs.Prelude.{◌≡◌, ◌<◌, ◌^◌, map, IfOk};
+ghost use Rattle.std.specs.List.{All};
+ghost use Rattle.field_rules.specs.Lists.{AreDistinct};
 ghost use Rattle.text_rules.specs.Elements.{set_in};
 ghost use Rattle.text_lines.specs.Gives.{Gives};
 
@@ -27,7 +28,7 @@ fn field_elements(alloc: Global, numbers: &[u32]) -> Result<Vec<Gf32>, AllocErro
 pub fn set_of(alloc: Global, text: &[u8]) -> Result<Vec<Gf32>, ReadStop>
     ensures gives { Gives (λ es. map ⟦<Gf32 as Field>⟧.bits_of es.items) result (set_in text.now) }
     ensures elements { IfOk result (λ es. All (λ e. (0 < e) × (e < 2 ^ 32)) (map ⟦<Gf32 as Field>⟧.bits_of es.items)) }
-    ensures distinct { IfOk result (λ es. AllPairs (λ a b. a ≢ b) (map ⟦<Gf32 as Field>⟧.bits_of es.items)) }
+    ensures distinct { IfOk result (λ es. AreDistinct (map ⟦<Gf32 as Field>⟧.bits_of es.items)) }
 {
     let reading = read(alloc, text)?;
     if let Some(place) = first_repeat(alloc, reading.numbers.as_slice())? {

@@ -5,8 +5,9 @@ use Rattle.hex.specs.Hex.{decode_pairs, encode_with}
 use Rattle.base_types.specs.declared.text.Kind.TheVariants as kind
 use Rattle.field_rules.specs.Ops.{power}
 use Rattle.field_rules.specs.Elements.{carryless_below, product, remainder}
+use Rattle.field_rules.specs.Lists.{sums_of_both}
 use Rattle.sketch_rules.specs.PowerSums.{power_sum, sums_from}
-use Rattle.sketch_rules.specs.Sketches.{merged, sums_in}
+use Rattle.sketch_rules.specs.Sketches.{sums_in}
 use Rattle.sketch_rules.specs.Answers.{Rises, answer_of}
 use Rattle.sketch_laws.proofs.Unique.{answer_at-is}
 use Rattle.field_core.specs.Gf32.{bits_of, field, numbered as gf_numbered, ops, ring}
@@ -18,15 +19,15 @@ use Rattle.erlay_cli.specs.Answers.{decoded, found, work_of}
 
 -- the sketches of 1, 2 and of 2
 sum : sum_in (line (codes "0300000009000000") ++ line (codes "0200000008000000")) ≡ Ok (1 ∷ 1 ∷ [])
-unfolding lines numbered decode_pairs sums_in merged
+unfolding lines numbered decode_pairs sums_in sums_of_both
 sum = refl
 
 differ : sum_in (line (codes "010000000100000001000000") ++ line (codes "0300000009000000")) ≡ Err (record { place = 2; kind = kind.LengthsDiffer })
-unfolding lines numbered decode_pairs sums_in merged
+unfolding lines numbered decode_pairs sums_in sums_of_both
 differ = refl
 
 ragged : sum_in (line (codes "03000000") ++ line (codes "030000000900")) ≡ Err (record { place = 2; kind = kind.RaggedLength 6 })
-unfolding lines numbered decode_pairs sums_in merged
+unfolding lines numbered decode_pairs sums_in sums_of_both
 ragged = refl
 
 -- one CR is a line

@@ -2,7 +2,8 @@
 use Rattle.std.proofs.Common.{◌≡◌, ◌≢◌, ◌<◌, ◌^◌, List, length, map, get_or, arith, sym, ap, ◌∙◌}
 use Rattle.std.proofs.Math.ListN.{length-map}
 use Rattle.std.proofs.lemmas.List.{get_or-map}
-use Rattle.std.specs.List.{All, AllPairs}
+use Rattle.std.specs.List.{All}
+use Rattle.field_rules.specs.Lists.{AreDistinct}
 use Rattle.field_core.specs.declared.gf32.Gf32.{Gf32}
 use Rattle.field_core.specs.Gf32.{bits_of, ops}
 
@@ -15,7 +16,7 @@ nonzero es elements k d k_in zero =
     omega (arith, element, none)
 
 -- elements whose numbers differ differ
-pub apart : (es : List Gf32) → AllPairs (λ a b. a ≢ b) (map bits_of es) → AllPairs (λ a b. a ≢ b) es
+pub apart : (es : List Gf32) → AreDistinct (map bits_of es) → AreDistinct es
 apart es distinct i j d before j_in same =
     let j_there : j < length (map bits_of es) = rw length-map j_in in
     let i_in : i < length es = omega arith in

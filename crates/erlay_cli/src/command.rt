@@ -7,7 +7,7 @@ ghost use Rattle.sketch_rules.specs.Sketches.{IsCapacity};
 ghost use Rattle.erlay_cli.specs.Words.{HasForm, IsFormless};
 
 use crate::number::decimal_of;
-use sketch_core::MAX_CAPACITY;
+use sketch_rules::MAX_CAPACITY;
 
 /// What the command line asks for.
 #[derive(Clone, Copy, Debug, PartialEq, Eq)]

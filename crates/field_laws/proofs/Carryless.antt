@@ -1,6 +1,6 @@
 -- The carryless product: it keeps exclusive ors and shifts on both sides, commutes and associates.
-use Rattle.std.proofs.Common.{◌≡◌, ◌⊎◌, inl, inr, ℕ, zero, suc, ◌+◌, ◌*◌, ◌/◌, ◌%◌, ◌^◌, ◌<◌, ◌≤◌, refl, sym, ap, subst, ◌∙◌, arith, add-suc, mul-zero, pow_mono, lit<, one-add}
-use Rattle.std.specs.Int.Bits.{bit_xor, xor_self, xor_zero_r, xor_zero_l, xor_comm, xor_assoc, xor_lt, xor_shifted}
+use Rattle.std.proofs.Common.{◌≡◌, ◌⊎◌, inl, inr, ℕ, zero, suc, ◌+◌, ◌*◌, ◌/◌, ◌%◌, ◌^◌, ◌<◌, ◌≤◌, refl, sym, ap, subst, ◌∙◌, arith, add-suc, mul-zero, pow_mono, lit<}
+use Rattle.std.specs.Int.Bits.{bit_xor, xor_self, xor_zero_r, xor_zero_l, xor_comm, xor_assoc, xor_lt}
 use Rattle.std.specs.Int.{bit_at}
 use Rattle.std.proofs.Math.Nat.{zero-mul, one-mul, mul-one, mod-one, add-zero, add_comm, mod-eq_of_lt, mul_assoc, mul_comm, mul-mod_left, le_refl, le_trans, div-eq_of_lt}
 use Rattle.std.proofs.lemmas.Nat.{pow_pos, pow-add, shr-shr, shl_below, shr_split, shl-shr}
@@ -252,7 +252,7 @@ carryless_below-assoc j (suc k) a b c h =
     wider : carryless_below (j + k) a (carryless_below k b c) ≡ carryless_below (j + suc k) a (carryless_below k b c)
     wider = carryless_below-enough (j + k) (j + suc k) a (carryless_below k b c) fits (le_trans fits (pow_mono (omega arith)))
 
--- ---- windows and their table
+-- ---- windows
 
 -- a window of k places at the low end, and the rest
 pub carryless_below-window : (k n a b : ℕ) → carryless_below (k + n) a b ≡ bit_xor (carryless_below n a (b / 2 ^ k) * 2 ^ k) (carryless_below k a (b % 2 ^ k))
@@ -260,43 +260,3 @@ carryless_below-window k n a b =
     carryless_below-split k n a b
     ∙ xor_comm (carryless_below k a b) (carryless_below n a (b / 2 ^ k) * 2 ^ k)
     ∙ ap (bit_xor (carryless_below n a (b / 2 ^ k) * 2 ^ k)) (sym (carryless_below-low k a b))
-
--- the multiple of a by twice j
-pub carryless_below-double : (n a j : ℕ) → j < 2 ^ n → carryless_below (suc n) a (2 * j) ≡ carryless_below (suc n) a j * 2
-carryless_below-double n a j h =
-    ap (carryless_below (suc n) a) twice
-    ∙ ap (λ z. carryless_below z a (j * 2 ^ 1)) (sym (one-add n))
-    ∙ carryless_below-shl_r 1 n a j
-    ∙ ap (λ z. z * 2) (carryless_below-enough n (suc n) a j h (le_trans h (pow_mono (omega arith))))
-  where
-    twice : 2 * j ≡ j * 2 ^ 1
-    twice = omega arith
-
--- the multiple of a by one more than twice j
-pub carryless_below-next : (n a j : ℕ) → carryless_below (suc n) a (2 * j + 1) ≡ bit_xor (carryless_below (suc n) a (2 * j)) a
-carryless_below-next n a j =
-    ap (carryless_below (suc n) a) odd
-    ∙ carryless_below-xor_r (suc n) a (2 * j) 1
-    ∙ ap (bit_xor (carryless_below (suc n) a (2 * j))) (carryless_below-one_r n a)
-  where
-    twice : j * 2 ^ 1 ≡ 2 * j
-    twice = omega arith
-
-    odd : 2 * j + 1 ≡ bit_xor (2 * j) 1
-    odd = ap (λ z. z + 1) (sym twice) ∙ sym (xor_shifted j 1 1 (lit< tt)) ∙ ap (λ z. bit_xor z 1) twice
-
--- the 16 multiples of a, by windows of 4 places
-pub multiple_double : (a j : ℕ) → j < 8 → carryless_below 4 a (2 * j) ≡ carryless_below 4 a j * 2
-multiple_double a j h = carryless_below-double 3 a j h
-
--- each odd one from the one before
-pub multiple_next : (a j : ℕ) → j < 8 → carryless_below 4 a (2 * j + 1) ≡ bit_xor (carryless_below 4 a (2 * j)) a
-multiple_next a j h = carryless_below-next 3 a j
-
--- the first one
-pub multiple_zero : (a : ℕ) → carryless_below 4 a 0 ≡ 0
-multiple_zero a = carryless_below-zero_r 4 a
-
--- the second one
-pub multiple_one : (a : ℕ) → carryless_below 4 a 1 ≡ a
-multiple_one a = carryless_below-one_r 3 a

@@ -79,15 +79,6 @@ module _ {A : Type 0} (ops : Ops A) (ring : IsRing ops) where
       ∙ ap (ops.times b) none
       ∙ times_zero ops ring b
 
-  -- an element has one inverse
-  pub inverse_only : (a b c : A) → ops.times a b ≡ ops.one → ops.times a c ≡ ops.one → b ≡ c
-  inverse_only a b c first second =
-      sym (ring.times_one b)
-      ∙ ap (ops.times b) (sym second)
-      ∙ sym (ring.times_assoc b a c)
-      ∙ ap (λ z. ops.times z c) (ring.times_comm b a ∙ first)
-      ∙ one_times ops ring c
-
   -- where no product of nonzero elements is 0, only 0 and 1 are their own squares
   pub own_of_no_zero_divisor : ((a b : A) → ops.times a b ≡ ops.zero → (a ≡ ops.zero) ⊎ (b ≡ ops.zero)) → (e : A) → ops.times e e ≡ e → (e ≡ ops.zero) ⊎ (e ≡ ops.one)
   own_of_no_zero_divisor apart e own = by (apart e (ops.plus e ops.one) none)

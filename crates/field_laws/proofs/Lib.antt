@@ -2,6 +2,7 @@ pub mod Carryless
 pub mod Certified32
 pub mod Conjugates
 pub mod Dots
+pub mod FieldOfNumbers
 pub mod Fields
 pub mod Folds
 pub mod Inverses

@@ -1,9 +1,10 @@
 -- Lists of elements that are told by their bits, and lists of numbers.
-use Rattle.std.proofs.Common.{◌≡◌, ◌≢◌, ℕ, suc, ◌^◌, ◌<◌, List, [], ◌∷◌, map, refl, ap, arith}
+use Rattle.std.proofs.Common.{◌≡◌, ℕ, suc, ◌^◌, ◌<◌, List, [], ◌∷◌, map, refl, ap, arith}
 use Rattle.std.specs.List.{All, AllPairs}
 use Rattle.std.proofs.lemmas.List.{length-map, get_or-map}
 use Rattle.field_rules.specs.Ops.{Ops}
 use Rattle.field_rules.specs.Numbered.{IsNumbered}
+use Rattle.field_rules.specs.Lists.{AreDistinct}
 
 module _ {A : Type 0} (ops : Ops A) (bits_of : A → ℕ) (width : ℕ) (numbered : IsNumbered ops bits_of width) where
   -- the elements of these bits
@@ -25,7 +26,7 @@ module _ {A : Type 0} (ops : Ops A) (bits_of : A → ℕ) (width : ℕ) (numbere
       cc
 
   -- elements whose bits rise are distinct
-  pub distinct : (es : List A) → AllPairs (λ a b. a < b) (map bits_of es) → AllPairs (λ a b. a ≢ b) es
+  pub distinct : (es : List A) → AllPairs (λ a b. a < b) (map bits_of es) → AreDistinct es
   distinct es rises i j d below within same =
       let less = rises i j (bits_of d) below (omega (arith, length-map es bits_of)) in
       let one = get_or-map bits_of es i d (bits_of d) (omega arith) in

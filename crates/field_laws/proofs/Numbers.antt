@@ -1,5 +1,5 @@
 -- Elements told by their bits: equality of elements is that of the bits.
-use Rattle.std.proofs.Common.{◌≡◌, ◌≢◌, ◌⊎◌, ◌↔◌, inl, inr, ℕ, ◌^◌, ◌<◌, sym, ap, subst, ◌∙◌, arith, Bool, true, false}
+use Rattle.std.proofs.Common.{◌≡◌, ◌⊎◌, ◌↔◌, inl, inr, ℕ, ◌^◌, ◌<◌, sym, ap, subst, ◌∙◌, arith, Bool}
 use Rattle.std.specs.Prelude.{IsTrue, nat_eq}
 use Rattle.std.proofs.Math.Nat.{lt_irrefl}
 use Rattle.std.proofs.lemmas.Bool.{cases_eq}
@@ -28,7 +28,3 @@ module _ {A : Type 0} (ops : Ops A) (bits_of : A → ℕ) (width : ℕ) (numbere
   pub equal_bits : (r : Bool) (a b : A) → r ≡ nat_eq (bits_of a) (bits_of b) → IsTrue r ↔ (a ≡ b)
   equal_bits r a b is =
       (λ yes. numbered.same a b ((Decides-eqb (bits_of a) (bits_of b)).0 (sym is ∙ yes)), λ same. is ∙ (Decides-eqb (bits_of a) (bits_of b)).1 (ap bits_of same))
-
-  -- and where it fails they are different
-  pub different_bits : (r : Bool) (a b : A) → r ≡ nat_eq (bits_of a) (bits_of b) → r ≡ false → a ≢ b
-  different_bits r a b is failed same = let yes : r ≡ true = (equal_bits r a b is).1 same in cc

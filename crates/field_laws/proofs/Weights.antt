@@ -1,7 +1,7 @@
 -- Sums of weighted powers: as many of them as there are elements, all zero, leave no weight.
 use Rattle.std.proofs.Common.{◌≡◌, ◌≢◌, ◌⊎◌, inl, inr, ℕ, zero, suc, ◌<◌, List, [], ◌∷◌, length, get_or, refl, sym, ap, ◌∙◌, arith}
-use Rattle.std.specs.List.{AllPairs}
 use Rattle.field_rules.specs.Ops.{Ops, IsRing, power}
+use Rattle.field_rules.specs.Lists.{AreDistinct}
 use Rattle.field_laws.proofs.RingFacts.{zero_plus, times_zero, zero_times, distributes_left, plus_swap, same_of_sum}
 
 module _ {A : Type 0} (ops : Ops A) (ring : IsRing ops) where
@@ -9,11 +9,6 @@ module _ {A : Type 0} (ops : Ops A) (ring : IsRing ops) where
   unfoldable pub weighted : (A → A) → ℕ → List A → A
   weighted w k [] = ops.zero
   weighted w k (x ∷ xs) = ops.plus (ops.times (w x) (power ops x k)) (weighted w k xs)
-
-  -- no element
-  pub weighted-none : (w : A → A) (k : ℕ) → weighted w k [] ≡ ops.zero
-  unfolding weighted
-  weighted-none w k = refl
 
   -- one element more
   pub weighted-cons : (w : A → A) (k : ℕ) (x : A) (xs : List A) → weighted w k (x ∷ xs) ≡ ops.plus (ops.times (w x) (power ops x k)) (weighted w k xs)
@@ -94,7 +89,7 @@ module _ {A : Type 0} (ops : Ops A) (ring : IsRing ops) where
   -- where as many of these sums as there are elements are zero, from the power 0 on, each weight is zero: a Vandermonde
   -- system has one solution
   pub lone_weight : (no_zero_divisor : (a b : A) → ops.times a b ≡ ops.zero → (a ≡ ops.zero) ⊎ (b ≡ ops.zero))
-      → (w : A → A) (xs : List A) → AllPairs (λ a b. a ≢ b) xs → ((k : ℕ) → k < length xs → weighted w k xs ≡ ops.zero)
+      → (w : A → A) (xs : List A) → AreDistinct xs → ((k : ℕ) → k < length xs → weighted w k xs ≡ ops.zero)
       → (i : ℕ) (d : A) → i < length xs → w (get_or xs i d) ≡ ops.zero
   lone_weight no_zero_divisor w [] differ none = λ i d lt. absurd (omega arith)
   lone_weight no_zero_divisor w (x ∷ xs) differ none = each_weight w x xs (none 0 (omega arith))

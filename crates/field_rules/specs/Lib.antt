@@ -1,4 +1,5 @@
 pub mod Ops
+pub mod Lists
 pub mod Fields
 pub mod Elements
 pub mod Numbered

@@ -5,6 +5,7 @@ use Rattle.std.proofs.lemmas.Bool.{and_parts, and_from, lt-ltb, cond_both}
 use Rattle.std.proofs.lemmas.List.{length-append, length-map}
 use Rattle.std.proofs.lemmas.List.Folds.{list_all-append}
 use Rattle.base_types.specs.declared.lists.Hash32.{Hash32}
+use Rattle.field_rules.specs.Lists.{sums_of_both}
 use Rattle.sketch_rules.specs.Answers.{Rises}
 use Rattle.sketch_rules.specs.Sketches.{bytes_of, merged}
 use Rattle.sketch_laws.proofs.Bytes.{length-bytes_of}
@@ -119,7 +120,7 @@ pub sent_failure : IsMessage (message.ReconcilDiff false [])
 sent_failure = sent_diff false [] (lit≤ tt) refl
 
 pub merged_few : (xs ys : List ℕ) → length (merged xs ys) ≤ length xs
-unfolding merged
+unfolding sums_of_both
 merged_few [] ys = omega arith
 merged_few (x ∷ xs) [] = omega arith
 merged_few (x ∷ xs) (y ∷ ys) = let le = merged_few xs ys in omega arith

@@ -1,8 +1,9 @@
 -- Roots of monic polynomials: each gives a factor, and there are no more of them than the degree.
 use Rattle.std.proofs.Common.{◌≡◌, ◌≢◌, ◌⊎◌, inl, inr, ℕ, zero, suc, ◌+◌, ◌<◌, ◌≤◌, List, [], ◌∷◌, length, get_or, refl, sym, ap, ◌∙◌, arith}
 use Rattle.std.proofs.lemmas.List.{length-map, get_or_past}
-use Rattle.std.specs.List.{All, AllPairs}
+use Rattle.std.specs.List.{All}
 use Rattle.field_rules.specs.Ops.{Ops, IsRing}
+use Rattle.field_rules.specs.Lists.{AreDistinct}
 use Rattle.poly_rules.specs.Polynomials.{coefficient, Same, IsMonic, value_at, sum_of, scaled, product_of}
 use Rattle.poly_rules.specs.Roots.{IsRoot, with_roots}
 use Rattle.field_laws.proofs.RingFacts.{zero_plus, times_zero, zero_times, one_times, same_of_sum}
@@ -160,7 +161,7 @@ module _ {A : Type 0} (ops : Ops A) (ring : IsRing ops) where
         by_factor (inr zero_there) = zero_there
 
     -- distinct roots are no more than the degree
-    pub roots_within : (n : ℕ) (f rs : List A) → IsMonic ops n f → All (IsRoot ops f) rs → AllPairs (λ r s. r ≢ s) rs → length rs ≤ n
+    pub roots_within : (n : ℕ) (f rs : List A) → IsMonic ops n f → All (IsRoot ops f) rs → AreDistinct rs → length rs ≤ n
     roots_within n f [] monic roots differ = omega arith
     roots_within zero f (r ∷ rs) monic roots differ = absurd (apart (sym (value_at-one f r monic) ∙ roots 0 r (omega arith)))
     roots_within (suc n) f (r ∷ rs) monic roots differ =
@@ -170,7 +171,7 @@ module _ {A : Type 0} (ops : Ops A) (ring : IsRing ops) where
         omega arith
 
     -- a monic polynomial with as many distinct roots as its degree is the product of their factors
-    pub factors_of_roots : (n : ℕ) (f rs : List A) → IsMonic ops n f → length rs ≡ n → All (IsRoot ops f) rs → AllPairs (λ r s. r ≢ s) rs → Same ops f (with_roots ops rs)
+    pub factors_of_roots : (n : ℕ) (f rs : List A) → IsMonic ops n f → length rs ≡ n → All (IsRoot ops f) rs → AreDistinct rs → Same ops f (with_roots ops rs)
     unfolding with_roots
     factors_of_roots zero f [] monic e roots differ = whole f monic
       where

@@ -2,10 +2,11 @@
 //! no more roots than the degree.
 #![tactic(auto)]
 
-ghost use Rattle.std.specs.Prelude.{◌≡◌, ◌≢◌, ℕ, ◌≤◌, List, length};
-ghost use Rattle.std.specs.List.{All, AllPairs};
+ghost use Rattle.std.specs.Prelude.{◌≡◌, ℕ, ◌≤◌, List, length};
+ghost use Rattle.std.specs.List.{All};
 ghost use Rattle.field_rules.specs.Ops.{Ops, IsRing};
 ghost use Rattle.field_rules.specs.Fields.{IsField};
+ghost use Rattle.field_rules.specs.Lists.{AreDistinct};
 ghost use Rattle.poly_rules.specs.Polynomials.{Same, IsTrimmed, IsMonic, sum_of, product_of};
 ghost use Rattle.poly_rules.specs.Remainders.{IsRemainder};
 ghost use Rattle.poly_rules.specs.Roots.{IsRoot, with_roots};
@@ -37,9 +38,9 @@ pub fn squares_are_apart<A>()
 /// A monic polynomial has no more roots than its degree, and one with as many is the product of their factors. It does
 /// nothing when it runs: its contract is the theorem.
 pub fn roots_are_within_the_degree<A>()
-    ensures within { (ops : Ops A) (bits n : ℕ) (f rs : List A) → IsRing ops → IsField ops bits → IsMonic ops n f → All (IsRoot ops f) rs → AllPairs (λ r s. r ≢ s) rs
+    ensures within { (ops : Ops A) (bits n : ℕ) (f rs : List A) → IsRing ops → IsField ops bits → IsMonic ops n f → All (IsRoot ops f) rs → AreDistinct rs
         → length rs ≤ n }
-    ensures factors { (ops : Ops A) (bits n : ℕ) (f rs : List A) → IsRing ops → IsField ops bits → IsMonic ops n f → All (IsRoot ops f) rs → AllPairs (λ r s. r ≢ s) rs
+    ensures factors { (ops : Ops A) (bits n : ℕ) (f rs : List A) → IsRing ops → IsField ops bits → IsMonic ops n f → All (IsRoot ops f) rs → AreDistinct rs
         → length rs ≡ n → Same ops f (with_roots ops rs) }
     ensures monic { (ops : Ops A) (rs : List A) → IsRing ops → IsMonic ops (length rs) (with_roots ops rs) }
     ensures roots { (ops : Ops A) (rs : List A) → IsRing ops → All (IsRoot ops (with_roots ops rs)) rs }

@@ -1,5 +1,4 @@
-ghost use Rattle.std.specs.Prelude.{◌≡◌, ℕ, ◌≤◌, List, length, IfOk, IsTrue, Some};
-ghost use Rattle.sketch_rules.specs.Answers.{Answer, answer_of};
+ghost use Rattle.std.specs.Prelude.{◌≡◌, ◌≤◌, length, IfOk, IsTrue};
 ghost use Rattle.poly_rules.specs.Polynomials.{degree, IsMonic};
 
 use super::*;
@@ -92,18 +91,4 @@ fn a_recurrence_goes_on(rt: HostRuntime) {
         values.as_slice(),
         [Gf32::new(3), Gf32::new(5), Gf32::new(9), Gf32::new(0x11)].as_slice()
     );
-}
-
-/// There is at most one answer to a sketch of 32-bit elements, and it is the one that is found.
-fn answers_of_32_bits()
-    ensures unique { (sums xs ys : List ℕ) → Answer 32 sums xs → Answer 32 sums ys → xs ≡ ys }
-    ensures found { (sums es : List ℕ) → Answer 32 sums es → answer_of sums ≡ Some es }
-{
-    sketches_are_unique::<Gf32>();
-    answers_are_found();
-}
-
-#[test]
-fn the_laws_hold_at_32_bits() {
-    answers_of_32_bits();
 }

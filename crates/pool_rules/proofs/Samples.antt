@@ -7,16 +7,17 @@ use Rattle.line_rules.specs.Numbers.{digits_onto}
 use Rattle.line_rules.specs.Reading.{read_lines}
 use Rattle.field_rules.specs.Elements.{carryless_below, remainder, product}
 use Rattle.field_rules.specs.Ops.{power}
+use Rattle.field_rules.specs.Lists.{sums_of_both}
 use Rattle.sketch_rules.specs.PowerSums.{power_sum, sums_from}
 use Rattle.sketch_rules.specs.Sets.{placed, ascending}
-use Rattle.sketch_rules.specs.Sketches.{merged, sums_in}
+use Rattle.sketch_rules.specs.Sketches.{sums_in}
 use Rattle.id_rules.proofs.Samples.{hashing, from_digits}
 use Rattle.pool_rules.specs.Pools.{Distinct, insertion_by}
 use Rattle.pool_rules.specs.PoolFile.{pool_step, pool_of_count, pool_of_lines}
 
 -- an example that has this in its line `unfolding` computes sums of sketches and differences of sets
 unfoldable pub sketching : Unit {0}
-unfolding carryless_below remainder product power power_sum sums_from placed ascending merged sums_in
+unfolding carryless_below remainder product power power_sum sums_from placed ascending sums_of_both sums_in
 sketching = tt
 
 -- the same for lines of text

@@ -1,10 +1,11 @@
 -- The bytes of the sketches of two sets, read and decoded.
-use Rattle.std.proofs.Common.{◌≡◌, ◌≢◌, ◌⊎◌, inl, inr, ℕ, ◌^◌, ◌<◌, ◌≤◌, List, length, map, get_or, Result, Ok, Err, Option, Some, MatchResult, refl, sym, ap, subst, ◌∙◌, arith, if◌then◌else◌}
-use Rattle.std.specs.List.{All, AllPairs}
+use Rattle.std.proofs.Common.{◌≡◌, ◌⊎◌, inl, inr, ℕ, ◌^◌, ◌<◌, ◌≤◌, List, length, map, get_or, Result, Ok, Err, Option, Some, MatchResult, refl, sym, ap, subst, ◌∙◌, arith, if◌then◌else◌}
+use Rattle.std.specs.List.{All}
 use Rattle.std.proofs.lemmas.Bool.{eq-eqb}
 use Rattle.field_rules.specs.Ops.{Ops, IsRing}
 use Rattle.field_rules.specs.Fields.{IsField}
 use Rattle.field_rules.specs.Numbered.{IsNumbered}
+use Rattle.field_rules.specs.Lists.{AreDistinct}
 use Rattle.sketch_rules.specs.Sets.{difference}
 use Rattle.sketch_rules.specs.Sketches.{IsCapacity, bytes_of, merged, sketch_of}
 use Rattle.sketch_rules.specs.Answers.{answer_of}
@@ -28,7 +29,7 @@ answered_found bits_of want answer es (Err fault) is (inl e) = e
 answered_found bits_of want answer es (Err fault) is (inr e) = cc
 
 module _ {A : Type 0} (ops : Ops A) (ring : IsRing ops) (bits_of : A → ℕ) (width : ℕ) (field : IsField ops width) (numbered : IsNumbered ops bits_of width) (is_32 : width ≡ 32)
-    (xs ys : List ℕ) (c : ℕ) (in_xs : All (λ e. (0 < e) × (e < 2 ^ 32)) xs) (in_ys : All (λ e. (0 < e) × (e < 2 ^ 32)) ys) (apart_xs : AllPairs (λ a b. a ≢ b) xs) (apart_ys : AllPairs (λ a b. a ≢ b) ys)
+    (xs ys : List ℕ) (c : ℕ) (in_xs : All (λ e. (0 < e) × (e < 2 ^ 32)) xs) (in_ys : All (λ e. (0 < e) × (e < 2 ^ 32)) ys) (apart_xs : AreDistinct xs) (apart_ys : AreDistinct ys)
     (capacity : IsCapacity c) (few : length (difference xs ys) ≤ c) where
   numbered_32 : IsNumbered ops bits_of 32
   numbered_32 = subst (IsNumbered ops bits_of) is_32 numbered

@@ -1,7 +1,8 @@
 //! Sketches that come as bytes, read and decoded.
 
-ghost use Rattle.std.specs.Prelude.{◌≡◌, ◌≢◌, ℕ, ◌^◌, ◌<◌, ◌≤◌, List, length, map, Some, MatchResult};
-ghost use Rattle.std.specs.List.{All, AllPairs};
+ghost use Rattle.std.specs.Prelude.{◌≡◌, ℕ, ◌^◌, ◌<◌, ◌≤◌, List, length, map, Some, MatchResult};
+ghost use Rattle.std.specs.List.{All};
+ghost use Rattle.field_rules.specs.Lists.{AreDistinct};
 ghost use Rattle.sketch_rules.specs.Sets as sets;
 ghost use Rattle.sketch_rules.specs.Sketches.{IsCapacity, bytes_of, merged, sketch_of};
 ghost use Rattle.sketch_core.specs.Answered.{in_numbers};
@@ -23,7 +24,7 @@ pub fn decode_bytes<F: Field>(alloc: Global, bytes: &[u8]) -> Result<Decoded<F>,
     requires { F.BITS ≡ 32 }
     ensures answer { IsAnswered F.bits_of bytes_fault.OutOfMemory (decoded (read_bytes bytes.now)) result }
     ensures difference { (xs ys : List ℕ) (c : ℕ) → All (λ e. (0 < e) × (e < 2 ^ 32)) xs → All (λ e. (0 < e) × (e < 2 ^ 32)) ys
-        → AllPairs (λ a b. a ≢ b) xs → AllPairs (λ a b. a ≢ b) ys → IsCapacity c → length (sets.difference xs ys) ≤ c
+        → AreDistinct xs → AreDistinct ys → IsCapacity c → length (sets.difference xs ys) ≤ c
         → bytes.now ≡ bytes_of (merged (sketch_of xs c) (sketch_of ys c))
         → MatchResult result (λ found. in_numbers F.bits_of found ≡ Some (sets.difference xs ys)) (λ fault. fault ≡ bytes_fault.OutOfMemory) }
 {
@@ -44,7 +45,7 @@ pub fn difference<F: Field>(
     requires { F.BITS ≡ 32 }
     ensures answer { IsAnswered F.bits_of difference_fault.OutOfMemory (decoded (read_sum ours.now theirs.now)) result }
     ensures difference { (xs ys : List ℕ) (c : ℕ) → All (λ e. (0 < e) × (e < 2 ^ 32)) xs → All (λ e. (0 < e) × (e < 2 ^ 32)) ys
-        → AllPairs (λ a b. a ≢ b) xs → AllPairs (λ a b. a ≢ b) ys → IsCapacity c → length (sets.difference xs ys) ≤ c
+        → AreDistinct xs → AreDistinct ys → IsCapacity c → length (sets.difference xs ys) ≤ c
         → ours.now ≡ bytes_of (sketch_of xs c) → theirs.now ≡ bytes_of (sketch_of ys c)
         → MatchResult result (λ found. in_numbers F.bits_of found ≡ Some (sets.difference xs ys)) (λ fault. fault ≡ difference_fault.OutOfMemory) }
 {

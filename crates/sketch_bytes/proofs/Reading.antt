@@ -11,6 +11,7 @@ use Rattle.hex.specs.declared.error.FromHexError.{FromHexError}
 use Rattle.hex.specs.declared.error.FromHexError.TheVariants as hex_error
 use Rattle.hex.proofs.HexLemmas.{decode_of-err, decode_of-encode_lower, decode_of-encode_upper}
 use Rattle.sketch_rules.specs.Sketches.{IsCapacity, bytes_of, digits_of, sums_in}
+use Rattle.sketch_rules.specs.declared.limits.TheConstants.{MAX_SKETCH_BYTES}
 use Rattle.sketch_laws.proofs.Bytes.{sums_in-bytes_of, length-bytes_of, length-sums_in}
 use Rattle.sketch_bytes.specs.Reading.{Gives, read_bytes, read_line, read_digits, in_a_line}
 use Rattle.sketch_bytes.specs.declared.fault.BytesFault.{BytesFault}
@@ -20,21 +21,18 @@ use Rattle.sketch_bytes.specs.declared.fault.LineFault.TheVariants as line_fault
 
 -- ---- bytes
 
-pub read-empty : (bytes : List ℕ) → length bytes ≡ 0 → read_bytes bytes ≡ Err bytes_fault.EmptySketch
-read-empty bytes e = rw (eq-eqb (length bytes) 0 e) refl
-
 pub read-ragged : (bytes : List ℕ) → ¬ (length bytes % 4 ≡ 0) → read_bytes bytes ≡ Err (bytes_fault.RaggedLength (length bytes))
 read-ragged bytes ragged =
     let some : ¬ (length bytes ≡ 0) = λ e. ragged (ap (λ n. n % 4) e) in
     rw (ne_eqb (length bytes) 0 some, ne_eqb (length bytes % 4) 0 ragged) refl
 
-pub read-wide : (bytes : List ℕ) → length bytes % 4 ≡ 0 → 16384 < length bytes → read_bytes bytes ≡ Err (bytes_fault.TooWide (length bytes))
+pub read-wide : (bytes : List ℕ) → length bytes % 4 ≡ 0 → MAX_SKETCH_BYTES < length bytes → read_bytes bytes ≡ Err (bytes_fault.TooWide (length bytes))
 read-wide bytes whole wide =
     let some : ¬ (length bytes ≡ 0) = λ e. absurd (omega arith) in
-    rw (ne_eqb (length bytes) 0 some, eq-eqb (length bytes % 4) 0 whole, lt-ltb 16384 (length bytes) wide) refl
+    rw (ne_eqb (length bytes) 0 some, eq-eqb (length bytes % 4) 0 whole, lt-ltb MAX_SKETCH_BYTES (length bytes) wide) refl
 
-pub read-sums : (bytes : List ℕ) → ¬ (length bytes ≡ 0) → length bytes % 4 ≡ 0 → length bytes ≤ 16384 → read_bytes bytes ≡ Ok (sums_in bytes)
-read-sums bytes some whole fits = rw (ne_eqb (length bytes) 0 some, eq-eqb (length bytes % 4) 0 whole, le-ltb 16384 (length bytes) fits) refl
+pub read-sums : (bytes : List ℕ) → ¬ (length bytes ≡ 0) → length bytes % 4 ≡ 0 → length bytes ≤ MAX_SKETCH_BYTES → read_bytes bytes ≡ Ok (sums_in bytes)
+read-sums bytes some whole fits = rw (ne_eqb (length bytes) 0 some, eq-eqb (length bytes % 4) 0 whole, le-ltb MAX_SKETCH_BYTES (length bytes) fits) refl
 
 -- the bytes of a sketch are read as its sums
 pub read-bytes_of : (sums : List ℕ) → IsCapacity (length sums) → All (λ s. s < 2 ^ 32) sums → read_bytes (bytes_of sums) ≡ Ok sums
@@ -46,7 +44,7 @@ read-bytes_of sums capacity small =
     read-sums (bytes_of sums) some (omega arith) (omega arith) ∙ ap Ok (sums_in-bytes_of sums small)
 
 -- how many sums bytes spell
-pub capacity_of : {A : Type 0} (f : A → ℕ) (items : List A) (bytes : List ℕ) → map f items ≡ sums_in bytes → ¬ (length bytes ≡ 0) → length bytes % 4 ≡ 0 → length bytes ≤ 16384 → IsCapacity (length items)
+pub capacity_of : {A : Type 0} (f : A → ℕ) (items : List A) (bytes : List ℕ) → map f items ≡ sums_in bytes → ¬ (length bytes ≡ 0) → length bytes % 4 ≡ 0 → length bytes ≤ MAX_SKETCH_BYTES → IsCapacity (length items)
 capacity_of f items bytes is some whole fits =
     let long = length-sums_in bytes whole in
     let same : length items ≡ length (sums_in bytes) = sym (mapped f items) ∙ ap length is in

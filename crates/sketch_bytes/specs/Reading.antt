@@ -4,16 +4,17 @@ use Rattle.hex.specs.Hex.{decode_of}
 use Rattle.hex.specs.declared.error.FromHexError.{FromHexError}
 use Rattle.hex.specs.declared.error.FromHexError.TheVariants as hex_error
 use Rattle.sketch_rules.specs.Sketches.{sums_in}
+use Rattle.sketch_rules.specs.declared.limits.TheConstants.{MAX_SKETCH_BYTES}
 use Rattle.sketch_bytes.specs.declared.fault.BytesFault.{BytesFault}
 use Rattle.sketch_bytes.specs.declared.fault.BytesFault.TheVariants as bytes_fault
 use Rattle.sketch_bytes.specs.declared.fault.LineFault.{LineFault}
 use Rattle.sketch_bytes.specs.declared.fault.LineFault.TheVariants as line_fault
 
--- the sums that bytes spell, 4 bytes each, from 1 to 4,096 of them
+-- the sums that bytes spell, 4 bytes each: at least one, and at most as many as a sketch may have
 abbrev pub read_bytes : List ℕ → Result (List ℕ) BytesFault
 read_bytes bytes =
     if length bytes == 0 then Err bytes_fault.EmptySketch
-    else if length bytes % 4 == 0 then (if nat_lt 16384 (length bytes) then Err (bytes_fault.TooWide (length bytes)) else Ok (sums_in bytes))
+    else if length bytes % 4 == 0 then (if nat_lt MAX_SKETCH_BYTES (length bytes) then Err (bytes_fault.TooWide (length bytes)) else Ok (sums_in bytes))
     else Err (bytes_fault.RaggedLength (length bytes))
 
 -- the fault of the bytes that a line spells

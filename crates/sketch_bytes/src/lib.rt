@@ -16,7 +16,8 @@ mod tests;
 use base_types::{Bytes, OutOfMemory};
 pub use fault::{BytesFault, LineFault};
 use field_core::Field;
-use sketch_core::{MAX_CAPACITY, Sketch};
+use sketch_core::Sketch;
+use sketch_rules::MAX_SKETCH_BYTES;
 use std::alloc::{AllocError, Global};
 
 /// The sums as bytes: 4 for each, the lowest first.
@@ -58,7 +59,7 @@ pub fn from_bytes<F: Field>(alloc: Global, bytes: &[u8]) -> Result<Sketch<F>, By
     if bytes.len() % 4 != 0 {
         return Err(BytesFault::RaggedLength(bytes.len() as u64));
     }
-    if 4 * MAX_CAPACITY < bytes.len() {
+    if MAX_SKETCH_BYTES < bytes.len() {
         return Err(BytesFault::TooWide(bytes.len() as u64));
     }
     let sums = sums_of(alloc, bytes)?;

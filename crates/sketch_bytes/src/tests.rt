@@ -3,6 +3,7 @@
 use super::*;
 use field_core::Gf32;
 use sketch_core::SketchFault;
+use sketch_rules::MAX_CAPACITY;
 
 #[test]
 fn a_line_of_one(rt: HostRuntime) {

@@ -1,15 +1,14 @@
 -- Sums of two lists, place by place.
-use Rattle.std.proofs.Common.{◌≡◌, ◌≢◌, ℕ, ◌+◌, ◌<◌, ◌≤◌, List, [], ◌∷◌, ◌++◌, length, map, get_or, take, drop, set, refl, ap, ◌∙◌, append_assoc, add-one, arith}
-use Rattle.std.specs.List.{AllPairs}
+use Rattle.std.proofs.Common.{◌≡◌, ℕ, ◌+◌, ◌<◌, ◌≤◌, List, [], ◌∷◌, ◌++◌, length, map, get_or, take, drop, set, refl, ap, ◌∙◌, append_assoc, add-one, arith}
 use Rattle.std.proofs.Math.Seq.{drop-cons, take-append_seam}
 use Rattle.std.proofs.Math.ListN.{drop_of_length-le}
 use Rattle.std.proofs.lemmas.List.{take_more_set, drop-set-lt, take-append-drop}
 use Rattle.field_rules.specs.Ops.{Ops}
 use Rattle.field_rules.specs.Numbered.{IsNumbered}
+use Rattle.field_rules.specs.Lists.{AreDistinct, sums_of_both}
 use Rattle.sketch_rules.specs.Sets.{difference}
 use Rattle.sketch_rules.specs.Sketches.{merged, sketch_at}
 use Rattle.sketch_laws.proofs.Merging.{merged-sketches}
-use Rattle.sketch_core.specs.Sums.{sums_of_both}
 
 -- what a vector holds once all of its items were written
 pub written_back : {A : Type 0} (n : ℕ) (new rest : List A) → n ≡ length new → take n (new ++ rest) ≡ new
@@ -37,12 +36,12 @@ module _ {A : Type 0} (ops : Ops A) where
 
   -- the bits of the sums are the sums of the bits
   pub both-numbers : (bits_of : A → ℕ) (width : ℕ) → IsNumbered ops bits_of width → (xs ys : List A) → map bits_of (sums_of_both ops xs ys) ≡ merged (map bits_of xs) (map bits_of ys)
-  unfolding sums_of_both merged
+  unfolding sums_of_both
   both-numbers bits_of width numbered [] ys = refl
   both-numbers bits_of width numbered (x ∷ xs) [] = refl
   both-numbers bits_of width numbered (x ∷ xs) (y ∷ ys) = rw (numbered.plus_bits x y, both-numbers bits_of width numbered xs ys) refl
 
 -- where both lists are the sketches of sets, their sum is the sketch of the difference
-pub merged_difference : (width c : ℕ) (ms ns xs ys : List ℕ) → AllPairs (λ a b. a ≢ b) xs → AllPairs (λ a b. a ≢ b) ys → ms ≡ sketch_at width xs c → ns ≡ sketch_at width ys c → merged ms ns ≡ sketch_at width (difference xs ys) c
+pub merged_difference : (width c : ℕ) (ms ns xs ys : List ℕ) → AreDistinct xs → AreDistinct ys → ms ≡ sketch_at width xs c → ns ≡ sketch_at width ys c → merged ms ns ≡ sketch_at width (difference xs ys) c
 merged_difference width c ms ns xs ys h k first second =
     ap (λ z. merged z ns) first ∙ ap (merged (sketch_at width xs c)) second ∙ merged-sketches width xs ys c h k

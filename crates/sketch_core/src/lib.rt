@@ -9,4 +9,4 @@ mod tests;
 
 pub use decoded::Decoded;
 pub use fault::SketchFault;
-pub use sketch::{MAX_CAPACITY, Sketch};
+pub use sketch::Sketch;

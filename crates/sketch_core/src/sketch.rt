@@ -1,23 +1,22 @@
 //! A sketch of a set: the sums of the odd powers of its elements.
 
 ghost use Rattle.std.specs.Prelude.{◌≡◌, ◌≢◌, ℕ, ◌+◌, ◌-◌, ◌*◌, ◌<◌, ◌≤◌, List, [], ◌∷◌, ◌++◌, length, map, replicate, take, drop, IfOk, IfErr, OnOk};
-ghost use Rattle.std.specs.List.{All, AllPairs};
+ghost use Rattle.std.specs.List.{All};
 ghost use Rattle.field_rules.specs.Ops.{with_odd_powers};
+ghost use Rattle.field_rules.specs.Lists.{AreDistinct, sums_of_both};
 ghost use Rattle.sketch_rules.specs.PowerSums.{IsAllSums, every_sum, sketch_by, sums_from};
 ghost use Rattle.sketch_rules.specs.Sets.{difference};
 ghost use Rattle.sketch_rules.specs.Sketches.{IsCapacity, merged, sketch_at};
+ghost use Rattle.sketch_rules.specs.declared.limits.TheConstants.{MAX_CAPACITY};
 ghost use Rattle.sketch_core.specs.Refusals.{IsRefusal};
-ghost use Rattle.sketch_core.specs.Sums.{sums_of_both};
 ghost use Rattle.sketch_core.specs.declared.fault.SketchFault.TheVariants.{CapacityOutOfRange};
 
 use crate::SketchFault;
 use base_types::OutOfMemory;
 use field_core::Field;
+use sketch_rules::MAX_CAPACITY;
 use std::alloc::Global;
 use std::marker::Model;
-
-/// The largest capacity of a sketch.
-pub const MAX_CAPACITY: usize = 4096;
 
 /// The sums `s_1, s_3, .., s_(2c - 1)` of the odd powers of the elements of a set, where c is the capacity. A contract
 /// sees a sketch as the list of its sums.
@@ -53,7 +52,7 @@ impl<F: Field> Sketch<F> {
     /// The sketch of a set, whose elements may come in any order.
     pub fn of(alloc: Global, elements: &[F], capacity: usize) -> Result<Sketch<F>, SketchFault>
         requires nonzero { All (λ e. e ≢ F.ops.zero) elements.now }
-        requires distinct { AllPairs (λ a b. a ≢ b) elements.now }
+        requires distinct { AreDistinct elements.now }
         ensures ok { IfOk result (λ s. s ≡ sketch_by F.ops elements.now capacity) }
         ensures in_range { OnOk result (IsCapacity capacity) }
         ensures refused { IfErr result (IsRefusal capacity) }
@@ -89,7 +88,7 @@ impl<F: Field> Sketch<F> {
         requires { length other.now ≡ length self.old }
         ensures sums { self.new ≡ sums_of_both F.ops self.old other.now }
         ensures numbers { map F.bits_of self.new ≡ merged (map F.bits_of self.old) (map F.bits_of other.now) }
-        ensures difference { (xs ys : List ℕ) → AllPairs (λ a b. a ≢ b) xs → AllPairs (λ a b. a ≢ b) ys
+        ensures difference { (xs ys : List ℕ) → AreDistinct xs → AreDistinct ys
             → map F.bits_of self.old ≡ sketch_at F.BITS xs (length self.old)
             → map F.bits_of other.now ≡ sketch_at F.BITS ys (length self.old)
             → map F.bits_of self.new ≡ sketch_at F.BITS (difference xs ys) (length self.old) }
@@ -123,7 +122,7 @@ impl<F: Field> Sketch<F> {
     /// The sketch of the longer capacity, of one of the shorter and of what it lacks. Where memory runs out, `first` is
     /// dropped.
     pub fn join(first: Sketch<F>, ext: &[F]) -> Result<Sketch<F>, OutOfMemory>
-        requires { length first + length ext.now ≤ 4096 }
+        requires { length first + length ext.now ≤ MAX_CAPACITY }
         ensures ok { IfOk result (λ s. s ≡ first ++ ext.now) }
         ensures set { (es : List F) → first ≡ sketch_by F.ops es (length first)
             → ext.now ≡ sums_from F.ops es (length first) (length ext.now)
@@ -194,7 +193,7 @@ fn add_each<F: Field>(sums: &mut [F], more: &[F])
 
 /// The sums of odd powers, each followed by the square of the sum of half the next power.
 fn with_even_sums<F: Field>(alloc: Global, odd: &[F]) -> Result<Vec<F>, OutOfMemory>
-    requires { length odd.now ≤ 4096 }
+    requires { length odd.now ≤ MAX_CAPACITY }
     ensures { IfOk result (λ v. IsAllSums F.ops odd.now v.items) }
 {
     let mut sums = Vec::with_capacity(alloc, 2 * odd.len())?;

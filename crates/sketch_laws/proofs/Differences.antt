@@ -1,8 +1,9 @@
 -- The difference of two sets is the answer to the sum of their sketches.
-use Rattle.std.proofs.Common.{◌≡◌, ◌≢◌, inl, inr, ℕ, ◌^◌, ◌<◌, ◌≤◌, List, length, get_or, sym, ap, subst, arith}
-use Rattle.std.specs.List.{All, AllPairs, Contains}
+use Rattle.std.proofs.Common.{◌≡◌, inl, inr, ℕ, ◌^◌, ◌<◌, ◌≤◌, List, length, get_or, sym, ap, subst, arith}
+use Rattle.std.specs.List.{All, Contains}
 use Rattle.std.proofs.lemmas.List.Elements.{Contains-get_or}
 use Rattle.field_rules.specs.Elements.{numbers}
+use Rattle.field_rules.specs.Lists.{AreDistinct}
 use Rattle.sketch_rules.specs.Sets.{difference}
 use Rattle.sketch_rules.specs.Sketches.{merged, sketch_at}
 use Rattle.sketch_rules.specs.Answers.{Answer}
@@ -29,7 +30,7 @@ of_difference P xs ys in_xs in_ys k d within =
 
 -- it answers the sum of the sketches
 pub difference_answers : (width : ℕ) (xs ys : List ℕ) (c : ℕ) → All (λ e. (0 < e) × (e < 2 ^ width)) xs → All (λ e. (0 < e) × (e < 2 ^ width)) ys
-    → AllPairs (λ a b. a ≢ b) xs → AllPairs (λ a b. a ≢ b) ys → length (difference xs ys) ≤ c
+    → AreDistinct xs → AreDistinct ys → length (difference xs ys) ≤ c
     → Answer width (merged (sketch_at width xs c) (sketch_at width ys c)) (difference xs ys)
 difference_answers width xs ys c in_xs in_ys apart_xs apart_ys few =
     subst (λ (sums : List ℕ). Answer width sums (difference xs ys)) (sym (merged-sketches width xs ys c apart_xs apart_ys))

@@ -96,15 +96,6 @@ module _ {A : Type 0} (ops : Ops A) where
     pub every_sum-only : (es : List A) (c : ℕ) (s : List A) → IsAllSums ops (sketch_by ops es c) s → s ≡ every_sum ops es 1 (2 * c)
     every_sum-only es c s all = all_sums_same (sketch_by ops es c) s (every_sum ops es 1 (2 * c)) all (every_sum-is es c)
 
-    -- what they belong to is the sketch
-    pub sketch_of_every_sum : (m es : List A) → IsAllSums ops m (every_sum ops es 1 (2 * length m)) → m ≡ sketch_by ops es (length m)
-    sketch_of_every_sum m es all =
-        ext_get_or ops.zero m (sketch_by ops es (length m)) (sym (length-sums_from es 0 (length m)))
-        (λ i lt. sym (all.odd i lt)
-        ∙ get_or-every_sum es 1 (2 * length m) (2 * i) ops.zero (omega arith)
-        ∙ ap (λ k. power_sum ops k es) (omega arith)
-        ∙ sym (get_or-sums_from es 0 (length m) i ops.zero lt))
-
     -- where the sums of odd powers below 2c are zero, so are those of all powers from 1 to 2c
     all_sums_zero : (es : List A) (c : ℕ) → ((i : ℕ) → i < c → power_sum ops (2 * i + 1) es ≡ ops.zero) → (n k : ℕ) → k ≤ n → 0 < k → k ≤ 2 * c → power_sum ops k es ≡ ops.zero
     all_sums_zero es c none zero k le some within = absurd (omega arith)

@@ -1,11 +1,11 @@
 -- The sum of two sketches is the sketch of the difference of the sets.
-use Rattle.std.proofs.Common.{◌≡◌, ◌≢◌, inl, inr, ℕ, zero, suc, ◌+◌, ◌*◌, ◌==◌, Bool, true, false, not, ◌||◌, cond, List, [], ◌∷◌, ◌++◌, refl, sym, ap, ◌∙◌}
+use Rattle.std.proofs.Common.{◌≡◌, inl, inr, ℕ, zero, suc, ◌+◌, ◌*◌, ◌==◌, Bool, true, false, not, ◌||◌, cond, List, [], ◌∷◌, ◌++◌, refl, sym, ap, ◌∙◌}
 use Rattle.std.specs.Prelude.{nat_lt, filter}
 use Rattle.std.specs.Int.Bits.{bit_xor, xor_self, xor_zero_l, xor_zero_r, xor_comm, xor_assoc}
-use Rattle.std.specs.List.{AllPairs}
 use Rattle.std.proofs.lemmas.Bool.{eqb-true, eq-eqb, ne_eqb, cases_eq, cases_Bool, or_parts}
 use Rattle.field_rules.specs.Ops.{power}
 use Rattle.field_rules.specs.Elements.{numbers}
+use Rattle.field_rules.specs.Lists.{AreDistinct, sums_of_both}
 use Rattle.sketch_rules.specs.PowerSums.{power_sum, sums_from}
 use Rattle.sketch_rules.specs.Sets.{lacking, placed, ascending, difference}
 use Rattle.sketch_rules.specs.Sketches.{merged, sketch_at}
@@ -133,10 +133,10 @@ power_sum-difference width k xs ys h j =
 
 -- the sums from place i on
 merged-sums : (width : ℕ) (xs ys : List ℕ) (i n : ℕ) → Apart xs → Apart ys → merged (sums_from (numbers width) xs i n) (sums_from (numbers width) ys i n) ≡ sums_from (numbers width) (difference xs ys) i n
-unfolding merged sums_from
+unfolding sums_of_both sums_from
 merged-sums width xs ys i zero h k = refl
 merged-sums width xs ys i (suc n) h k = rw (power_sum-difference width (2 * i + 1) xs ys h k, merged-sums width xs ys (i + 1) n h k) refl
 
 -- the sum of two sketches of one capacity is the sketch of the difference of the sets
-pub merged-sketches : (width : ℕ) (xs ys : List ℕ) (c : ℕ) → AllPairs (λ a b. a ≢ b) xs → AllPairs (λ a b. a ≢ b) ys → merged (sketch_at width xs c) (sketch_at width ys c) ≡ sketch_at width (difference xs ys) c
+pub merged-sketches : (width : ℕ) (xs ys : List ℕ) (c : ℕ) → AreDistinct xs → AreDistinct ys → merged (sketch_at width xs c) (sketch_at width ys c) ≡ sketch_at width (difference xs ys) c
 merged-sketches width xs ys c h k = merged-sums width xs ys 0 c (Apart-from_AllPairs xs h) (Apart-from_AllPairs ys k)

@@ -1,9 +1,10 @@
 -- Lists that rise between two bounds: what they have, and that what they have tells them.
-use Rattle.std.proofs.Common.{◌≡◌, ◌≢◌, inl, inr, ℕ, suc, ◌+◌, ◌<◌, ◌≤◌, ◌==◌, true, false, ◌||◌, List, [], ◌∷◌, length, get_or, refl, sym, ap, ◌∙◌, arith}
+use Rattle.std.proofs.Common.{◌≡◌, inl, inr, ℕ, suc, ◌+◌, ◌<◌, ◌≤◌, ◌==◌, true, false, ◌||◌, List, [], ◌∷◌, length, get_or, refl, sym, ap, ◌∙◌, arith}
 use Rattle.std.specs.List.{All, AllPairs}
 use Rattle.std.proofs.lemmas.Bool.{eqb-true, eq-eqb, or_cases, cases_Bool}
 use Rattle.std.proofs.lemmas.List.Kept.{AllPairs-cons}
 use Rattle.std.proofs.lemmas.List.Elements.{Contains-get_or}
+use Rattle.field_rules.specs.Lists.{AreDistinct}
 use Rattle.sketch_rules.specs.Answers.{Rises}
 use Rattle.sketch_rules.specs.Sets.{difference}
 use Rattle.sketch_laws.proofs.Sets.{has, has-from_Contains, difference-from, difference-rises}
@@ -74,7 +75,7 @@ AllPairs-from_Rises low high (x ∷ xs) rises =
     AllPairs-cons (λ a b. a < b) x xs (λ k d lt. (let within = each_within (x + 1) high xs rises.2 k d lt in omega (arith, within.0))) (AllPairs-from_Rises (x + 1) high xs rises.2)
 
 -- no number stands twice
-pub differ_from_rises : (low high : ℕ) (xs : List ℕ) → Rises low high xs → AllPairs (λ a b. a ≢ b) xs
+pub differ_from_rises : (low high : ℕ) (xs : List ℕ) → Rises low high xs → AreDistinct xs
 differ_from_rises low high xs rises i j d below within same =
     let less = AllPairs-from_Rises low high xs rises i j d below within in omega arith
 

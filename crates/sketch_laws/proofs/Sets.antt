@@ -1,11 +1,12 @@
 -- Which numbers a list has, of lists without repeats, and the difference of two of them.
-use Rattle.std.proofs.Common.{◌≡◌, ◌≢◌, ◌⊎◌, inl, inr, ℕ, zero, suc, ◌<◌, ◌==◌, Bool, true, false, not, ◌||◌, ◌&&◌, cond, List, [], ◌∷◌, ◌++◌, length, get_or, refl, sym, ap, ◌∙◌, arith, ◌+◌, ◌≤◌, length-append}
+use Rattle.std.proofs.Common.{◌≡◌, ◌⊎◌, inl, inr, ℕ, zero, suc, ◌<◌, ◌==◌, Bool, true, false, not, ◌||◌, ◌&&◌, cond, List, [], ◌∷◌, ◌++◌, length, get_or, refl, sym, ap, ◌∙◌, arith, ◌+◌, ◌≤◌, length-append}
 use Rattle.std.specs.Prelude.{◌↔◌, nat_lt, filter}
 use Rattle.std.specs.List.{AllPairs, Contains, list_any}
 use Rattle.std.proofs.lemmas.Bool.{eqb-true, eq-eqb, cases_Bool, or_cases, or_parts, ltb-true}
 use Rattle.std.proofs.lemmas.Bool.Decides.{nat_tests}
 use Rattle.std.proofs.lemmas.List.Kept.{AllPairs-cons}
 use Rattle.std.proofs.lemmas.List.Elements.{Contains-get_or}
+use Rattle.field_rules.specs.Lists.{AreDistinct}
 use Rattle.sketch_rules.specs.Sets.{lacking, placed, ascending, difference}
 
 -- whether the number is in the list
@@ -46,7 +47,7 @@ Contains-from_has (x ∷ xs) n h = elim (cases_Bool (x == n)) [
 ]
 
 -- a list without repeats
-pub Apart-from_AllPairs : (xs : List ℕ) → AllPairs (λ a b. a ≢ b) xs → Apart xs
+pub Apart-from_AllPairs : (xs : List ℕ) → AreDistinct xs → Apart xs
 Apart-from_AllPairs [] h = tt
 Apart-from_AllPairs (x ∷ xs) h = (
   elim (cases_Bool (has xs x)) [
@@ -183,7 +184,7 @@ parts_disjoint xs ys n h =
     never false false e = refl
 
 -- the difference of two sets is strictly ascending
-pub difference-rises : (xs ys : List ℕ) → AllPairs (λ a b. a ≢ b) xs → AllPairs (λ a b. a ≢ b) ys → AllPairs (λ a b. a < b) (difference xs ys)
+pub difference-rises : (xs ys : List ℕ) → AreDistinct xs → AreDistinct ys → AllPairs (λ a b. a < b) (difference xs ys)
 difference-rises xs ys h k =
     AllPairs-from_Rises (difference xs ys) (Rises-ascending (lacking xs ys ++ lacking ys xs)
     (Apart-append (lacking xs ys) (lacking ys xs) (Apart-filter (λ x. not (has ys x)) xs (Apart-from_AllPairs xs h)) (Apart-filter (λ y. not (has xs y)) ys (Apart-from_AllPairs ys k)) (parts_disjoint xs ys)))

@@ -1,6 +1,6 @@
 -- A sketch has at most one answer.
 use Rattle.std.proofs.Common.{◌≡◌, ◌≢◌, ◌⊎◌, ℕ, suc, ◌+◌, ◌*◌, ◌^◌, ◌<◌, ◌≤◌, List, [], ◌∷◌, length, get_or, map, refl, sym, ap, subst, ◌∙◌, arith}
-use Rattle.std.specs.Prelude.{Option, Some, None}
+use Rattle.std.specs.Prelude.{◌↔◌, Option, Some, None}
 use Rattle.std.specs.Int.Bits.{bit_xor, xor_self}
 use Rattle.std.specs.List.{All, AllPairs}
 use Rattle.std.proofs.lemmas.List.{length-map, get_or-map}
@@ -8,10 +8,13 @@ use Rattle.field_rules.specs.Ops.{Ops, IsRing}
 use Rattle.field_rules.specs.Elements.{numbers}
 use Rattle.field_rules.specs.Fields.{IsField}
 use Rattle.field_rules.specs.Numbered.{IsNumbered}
+use Rattle.field_rules.specs.Lists.{AreDistinct}
 use Rattle.sketch_rules.specs.PowerSums.{power_sum, sketch_by}
 use Rattle.sketch_rules.specs.Sets.{difference}
 use Rattle.sketch_rules.specs.Sketches.{sketch_at}
 use Rattle.sketch_rules.specs.Answers.{Rises, Answer, answer_at, answer_at-some, answer_at-none}
+use Rattle.field_laws.specs.Certified.{Certified}
+use Rattle.field_laws.proofs.FieldOfNumbers.{bits_of, field, numbered, ops, ring}
 use Rattle.field_laws.proofs.NumberedLists.{elements_of, same_elements, distinct}
 use Rattle.field_laws.proofs.Weights.{lone_weight}
 use Rattle.sketch_laws.proofs.EverySums.{sums_zero, get_or-sums_from, length-sums_from}
@@ -24,7 +27,7 @@ use Rattle.sketch_laws.proofs.Weights.{weighted-own}
 
 module _ {A : Type 0} (ops : Ops A) (ring : IsRing ops) (no_zero_divisor : (a b : A) → ops.times a b ≡ ops.zero → (a ≡ ops.zero) ⊎ (b ≡ ops.zero)) where
   -- of at most 2c distinct elements whose sums of odd powers below 2c are zero, each is zero
-  pub all_zero : (es : List A) (c : ℕ) → AllPairs (λ a b. a ≢ b) es → length es ≤ 2 * c → ((i : ℕ) → i < c → power_sum ops (2 * i + 1) es ≡ ops.zero)
+  pub all_zero : (es : List A) (c : ℕ) → AreDistinct es → length es ≤ 2 * c → ((i : ℕ) → i < c → power_sum ops (2 * i + 1) es ≡ ops.zero)
       → (i : ℕ) (d : A) → i < length es → get_or es i d ≡ ops.zero
   all_zero es c differ few none =
       lone_weight ops ring no_zero_divisor (λ e. e) es differ
@@ -51,7 +54,7 @@ module _ {A : Type 0} (ops : Ops A) (bits_of : A → ℕ) (width : ℕ) (ring : 
           ∙ none i lt
           ∙ sym numbered.zero_bits)
 
-      differ : AllPairs (λ a b. a ≢ b) made.0
+      differ : AreDistinct made.0
       differ = distinct ops bits_of width numbered made.0 (subst (AllPairs (λ a b. a < b)) (sym made.1) (AllPairs-from_Rises 1 (2 ^ width) (n ∷ ns) rises))
 
       no_head : n ≡ 0
@@ -114,3 +117,17 @@ module _ {A : Type 0} (ops : Ops A) (bits_of : A → ℕ) (width : ℕ) (ring : 
       same_elements ops bits_of width numbered xs ys
       (answer_unique (map bits_of (sketch_by ops xs c)) (map bits_of xs) (map bits_of ys) (answer_of_elements xs c xs_rise xs_nonzero xs_few)
       (subst (λ ms. Answer width (map bits_of ms) (map bits_of ys)) (sym same) (answer_of_elements ys c ys_rise ys_nonzero ys_few)))
+
+-- ---- over numbers alone
+
+-- at a width that passes the tests a sketch has at most one answer
+pub numbers_unique : (width : ℕ) → Certified width → (sums xs ys : List ℕ) → Answer width sums xs → Answer width sums ys → xs ≡ ys
+numbers_unique width certified =
+    answer_unique (ops width certified.is_width) (bits_of width) width (ring width certified.is_width) (field width certified) (numbered width certified.is_width)
+
+-- which is what answer_at gives, exactly where there is one
+pub answer_at-exactly : (width : ℕ) → Certified width → (sums es : List ℕ) → (answer_at width sums ≡ Some es) ↔ Answer width sums es
+answer_at-exactly width certified sums es = (
+  answer_at-some width sums es,
+  answer_at-is (ops width certified.is_width) (bits_of width) width (ring width certified.is_width) (field width certified) (numbered width certified.is_width) sums es,
+)

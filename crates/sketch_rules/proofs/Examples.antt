@@ -4,6 +4,7 @@ use Rattle.hex.specs.Hex.{encode_with}
 use Rattle.std.specs.Prelude.{codes}
 use Rattle.field_rules.specs.Ops.{power}
 use Rattle.field_rules.specs.Elements.{carryless_below, remainder, product, numbers}
+use Rattle.field_rules.specs.Lists.{sums_of_both}
 use Rattle.sketch_rules.specs.PowerSums.{power_sum, sums_from, every_sum, IsAllSums}
 use Rattle.sketch_rules.specs.Sketches.{digits_of, merged, sketch_of}
 use Rattle.sketch_rules.specs.Sets.{ascending, difference, placed}
@@ -35,7 +36,7 @@ unfolding placed ascending
 differ = refl
 
 summed : merged (sketch_of (1 ∷ 2 ∷ []) 2) (sketch_of (2 ∷ []) 2) ≡ sketch_of (1 ∷ []) 2
-unfolding product remainder carryless_below power power_sum sums_from merged
+unfolding product remainder carryless_below power power_sum sums_from sums_of_both
 summed = refl
 
 -- all four sums of 1 and 2, and how those of odd powers determine them

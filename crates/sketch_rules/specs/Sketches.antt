@@ -1,10 +1,12 @@
 -- Sketches over numbers, and their bytes.
-use Rattle.std.specs.Prelude.{ℕ, ◌≤◌, List, [], ◌∷◌, bit_xor}
+use Rattle.std.specs.Prelude.{ℕ, ◌≤◌, List, [], ◌∷◌}
 use Rattle.std.specs.List.{flat_map}
 use Rattle.std.specs.Int.{from_le_bytes, to_le_bytes, w32}
 use Rattle.hex.specs.Hex.{encode_lower}
 use Rattle.field_rules.specs.Elements.{numbers}
+use Rattle.field_rules.specs.Lists.{sums_of_both}
 use Rattle.sketch_rules.specs.PowerSums.{sketch_by}
+use Rattle.sketch_rules.specs.declared.limits.TheConstants.{MAX_CAPACITY}
 
 -- the sketch of elements of the field of 2 ^ width elements
 abbrev pub sketch_at : ℕ → List ℕ → ℕ → List ℕ
@@ -24,15 +26,13 @@ digits_of sums = encode_lower (bytes_of sums)
 
 -- how many sums a sketch may have
 abbrev pub IsCapacity : ℕ → Type 0
-IsCapacity c = (1 ≤ c) × (c ≤ 4096)
+IsCapacity c = (1 ≤ c) × (c ≤ MAX_CAPACITY)
 
 -- the sums that bytes spell, 4 bytes each
 unfoldable pub sums_in : List ℕ → List ℕ
 sums_in (a ∷ b ∷ c ∷ d ∷ rest) = from_le_bytes w32 (a ∷ b ∷ c ∷ d ∷ []) ∷ sums_in rest
 sums_in fewer = []
 
--- the sum of two sketches of one capacity: place by place
-unfoldable pub merged : List ℕ → List ℕ → List ℕ
-merged [] bs = []
-merged (a ∷ rest) [] = []
-merged (a ∷ rest) (b ∷ more) = bit_xor a b ∷ merged rest more
+-- the sum of two sketches of one capacity. The sum of two numbers is their exclusive or, whatever the width
+abbrev pub merged : List ℕ → List ℕ → List ℕ
+merged ms ns = sums_of_both (numbers 32) ms ns

@@ -1,2 +1,6 @@
-//! The definitions of elements, sums and sketches, in `specs/`. There is no code here.
+//! The definitions of sums and sketches, in `specs/`, and how large a sketch may be. There is no code here.
 #![tactic(auto)]
+
+mod limits;
+
+pub use limits::{MAX_CAPACITY, MAX_SKETCH_BYTES};

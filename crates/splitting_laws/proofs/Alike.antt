@@ -7,6 +7,7 @@ use Rattle.std.proofs.lemmas.List.Kept.{AllPairs-filter}
 use Rattle.field_rules.specs.Ops.{Ops, IsRing}
 use Rattle.field_rules.specs.Fields.{IsField, IsToldApart, trace_of}
 use Rattle.field_rules.specs.Numbered.{IsNumbered}
+use Rattle.field_rules.specs.Lists.{AreDistinct}
 use Rattle.poly_rules.specs.Polynomials.{Same, value_at}
 use Rattle.poly_rules.specs.Remainders.{IsFrobeniusTable}
 use Rattle.poly_rules.specs.Roots.{IsRoot}
@@ -33,7 +34,7 @@ module _ {A : Type 0} (ops : Ops A) (bits_of : A → ℕ) (n : ℕ) where
   alike_few j es few = record { each = λ i b lt is k l d below within. absurd (omega arith) }
 
   -- at the end of the basis no two members are left
-  pub alike_end : ((a b : A) → a ≢ b → IsToldApart ops bits_of n a b) → (es : List A) → AllPairs (λ a b. a ≢ b) es → IsAlike ops bits_of n n es → length es ≤ 1
+  pub alike_end : ((a b : A) → a ≢ b → IsToldApart ops bits_of n a b) → (es : List A) → AreDistinct es → IsAlike ops bits_of n n es → length es ≤ 1
   alike_end separates [] differ alike = omega arith
   alike_end separates (a ∷ []) differ alike = omega arith
   alike_end separates (a ∷ b ∷ es) differ alike =

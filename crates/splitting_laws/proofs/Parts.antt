@@ -2,7 +2,7 @@
 -- part are dots of the polynomial with the sums of the whole.
 use Rattle.std.proofs.Common.{◌≡◌, ◌≢◌, ◌⊎◌, inl, inr, ℕ, zero, suc, ◌+◌, ◌<◌, ◌≤◌, Bool, true, false, not, cond, List, [], ◌∷◌, ◌++◌, length, drop, refl, sym, ap, ◌∙◌, arith}
 use Rattle.std.specs.Prelude.{nat_eq, filter}
-use Rattle.std.specs.List.{All, AllPairs}
+use Rattle.std.specs.List.{All}
 use Rattle.std.specs.List.Sorted.{IsPermutation}
 use Rattle.std.proofs.lemmas.List.{ext_get_or}
 use Rattle.std.proofs.lemmas.List.Elements.{All-filter}
@@ -12,6 +12,7 @@ use Rattle.std.proofs.lemmas.List.Sorted.{IsPermutation-filter_both, IsPermutati
 use Rattle.field_rules.specs.Ops.{Ops, IsRing, power}
 use Rattle.field_rules.specs.Fields.{dot_of}
 use Rattle.field_rules.specs.Numbered.{IsNumbered}
+use Rattle.field_rules.specs.Lists.{AreDistinct}
 use Rattle.sketch_rules.specs.PowerSums.{power_sum, every_sum}
 use Rattle.poly_rules.specs.Polynomials.{coefficient, value_at, sum_of}
 use Rattle.field_laws.proofs.RingFacts.{zero_plus, times_zero, zero_times, plus_again}
@@ -127,7 +128,7 @@ module _ {A : Type 0} (p : A → Bool) (es : List A) where
   pub parts-length : length (filter p es) + length (filter (λ e. not (p e)) es) ≡ length es
   parts-length = length-filter_both p (λ e. not (p e)) (λ e. refl) es
 
-  pub part-differ : AllPairs (λ a b. a ≢ b) es → AllPairs (λ a b. a ≢ b) (filter p es)
+  pub part-differ : AreDistinct es → AreDistinct (filter p es)
   part-differ differ = AllPairs-filter (λ a b. a ≢ b) p es differ
 
   pub part-nonzero : (ops : Ops A) → All (λ e. e ≢ ops.zero) es → All (λ e. e ≢ ops.zero) (filter p es)

@@ -1,11 +1,12 @@
 -- The recurrences of the power sums of a set: the product of the factors x + e gives one, and a monic polynomial that
 -- gives a recurrence of enough sums vanishes on the set.
 use Rattle.std.proofs.Common.{◌≡◌, ◌≢◌, ◌⊎◌, inl, inr, ℕ, ◌+◌, ◌*◌, ◌<◌, ◌≤◌, List, [], ◌∷◌, ◌++◌, length, get_or, take, drop, reverse, refl, sym, ap, subst, ◌∙◌, arith}
-use Rattle.std.specs.List.{All, AllPairs}
+use Rattle.std.specs.List.{All}
 use Rattle.std.proofs.lemmas.List.{length-reverse, length-take-le, reverse-reverse, ext_get_or}
 use Rattle.std.proofs.lemmas.Grind.{reverse_onto}
 use Rattle.field_rules.specs.Ops.{Ops, IsRing}
 use Rattle.field_rules.specs.Fields.{IsField, dot_of}
+use Rattle.field_rules.specs.Lists.{AreDistinct}
 use Rattle.sketch_rules.specs.PowerSums.{every_sum}
 use Rattle.poly_rules.specs.Polynomials.{Same, IsMonic, value_at}
 use Rattle.poly_rules.specs.Roots.{IsRoot, with_roots}
@@ -78,7 +79,7 @@ module _ {A : Type 0} (ops : Ops A) (ring : IsRing ops) where
         by_factor (inr none) = none
 
     -- a polynomial that has no dot with as many windows as the set has elements vanishes on the set
-    pub roots_of_windows : (g es : List A) (n : ℕ) → AllPairs (λ a b. a ≢ b) es → All (λ e. e ≢ ops.zero) es → length g + length es ≤ n + 1
+    pub roots_of_windows : (g es : List A) (n : ℕ) → AreDistinct es → All (λ e. e ≢ ops.zero) es → length g + length es ≤ n + 1
         → ((k : ℕ) → k < length es → dot_of ops g (drop k (every_sum ops es 1 n)) ≡ ops.zero) → All (IsRoot ops g) es
     roots_of_windows g es n differ nonzero long none =
         λ i d lt. zero_behind (get_or es i d) (value_at ops g (get_or es i d)) (nonzero i d lt)
@@ -86,21 +87,21 @@ module _ {A : Type 0} (ops : Ops A) (ring : IsRing ops) where
         (λ k within. sym (dot_of-window ops ring g es k n (omega arith)) ∙ none k within) i d lt)
 
     -- the polynomial of a recurrence of enough sums vanishes on the set
-    pub roots_of_recurs : (cs es : List A) (n : ℕ) → AllPairs (λ a b. a ≢ b) es → All (λ e. e ≢ ops.zero) es → length cs + length es ≤ n
+    pub roots_of_recurs : (cs es : List A) (n : ℕ) → AreDistinct es → All (λ e. e ≢ ops.zero) es → length cs + length es ≤ n
         → Recurs ops cs (every_sum ops es 1 n) → All (IsRoot ops (reverse (ops.one ∷ cs))) es
     roots_of_recurs cs es n differ nonzero long holds =
         roots_of_windows (reverse (ops.one ∷ cs)) es n differ nonzero (omega (arith, (monic_form ops ring cs).size))
         (λ k lt. monic_from_recurs ops ring cs (every_sum ops es 1 n) holds k (omega (arith, length-every_sum ops es 1 n)))
 
     -- so it is no shorter than the set is large
-    pub recurs_within : (cs es : List A) (n : ℕ) → AllPairs (λ a b. a ≢ b) es → All (λ e. e ≢ ops.zero) es → length cs + length es ≤ n
+    pub recurs_within : (cs es : List A) (n : ℕ) → AreDistinct es → All (λ e. e ≢ ops.zero) es → length cs + length es ≤ n
         → Recurs ops cs (every_sum ops es 1 n) → length es ≤ length cs
     recurs_within cs es n differ nonzero long holds =
         roots_within ops ring field.apart field.no_zero_divisor (length cs) (reverse (ops.one ∷ cs)) es (monic_form ops ring cs)
         (roots_of_recurs cs es n differ nonzero long holds) differ
 
     -- and where it is as short as the set, its polynomial is the product of the factors
-    pub recurs_only : (cs es : List A) (n : ℕ) → AllPairs (λ a b. a ≢ b) es → All (λ e. e ≢ ops.zero) es → length cs + length es ≤ n
+    pub recurs_only : (cs es : List A) (n : ℕ) → AreDistinct es → All (λ e. e ≢ ops.zero) es → length cs + length es ≤ n
         → Recurs ops cs (every_sum ops es 1 n) → length cs ≡ length es → reverse (ops.one ∷ cs) ≡ with_roots ops es
     recurs_only cs es n differ nonzero long holds even =
         monic_same ops (length es) (reverse (ops.one ∷ cs)) (with_roots ops es) monic (with_roots-monic ops ring es)
@@ -111,7 +112,7 @@ module _ {A : Type 0} (ops : Ops A) (ring : IsRing ops) where
         monic = subst (λ z. IsMonic ops z (reverse (ops.one ∷ cs))) even (monic_form ops ring cs)
 
     -- the shortest recurrence of the sums is that of the set, where it and the set aren't too large for the sums
-    shortest_only : (cs es : List A) (n : ℕ) → AllPairs (λ a b. a ≢ b) es → All (λ e. e ≢ ops.zero) es → length cs + length es ≤ n
+    shortest_only : (cs es : List A) (n : ℕ) → AreDistinct es → All (λ e. e ≢ ops.zero) es → length cs + length es ≤ n
         → IsShortest ops cs (every_sum ops es 1 n) → (length cs ≡ length es) × (reverse (ops.one ∷ cs) ≡ with_roots ops es)
     shortest_only cs es n differ nonzero long shortest = (even, recurs_only cs es n differ nonzero long shortest.holds even)
       where
@@ -119,13 +120,13 @@ module _ {A : Type 0} (ops : Ops A) (ring : IsRing ops) where
         even = omega (arith, shortest_within cs es n shortest, recurs_within cs es n differ nonzero long shortest.holds)
 
     -- the shortest recurrence of twice as many sums as the set has elements
-    pub shortest_of_set : (cs es : List A) (n : ℕ) → AllPairs (λ a b. a ≢ b) es → All (λ e. e ≢ ops.zero) es → 2 * length es ≤ n
+    pub shortest_of_set : (cs es : List A) (n : ℕ) → AreDistinct es → All (λ e. e ≢ ops.zero) es → 2 * length es ≤ n
         → IsShortest ops cs (every_sum ops es 1 n) → (length cs ≡ length es) × (reverse (ops.one ∷ cs) ≡ with_roots ops es)
     shortest_of_set cs es n differ nonzero long shortest =
         shortest_only cs es n differ nonzero (omega (arith, shortest_within cs es n shortest)) shortest
 
     -- of two sets that have as many elements together as there are sums, the one with the shorter recurrence
-    pub smaller_part : (cs ds es fs : List A) (n : ℕ) → AllPairs (λ a b. a ≢ b) es → All (λ e. e ≢ ops.zero) es → length es + length fs ≡ n
+    pub smaller_part : (cs ds es fs : List A) (n : ℕ) → AreDistinct es → All (λ e. e ≢ ops.zero) es → length es + length fs ≡ n
         → IsShortest ops cs (every_sum ops es 1 n) → IsShortest ops ds (every_sum ops fs 1 n) → length cs ≤ length ds
         → (length cs ≡ length es) × (reverse (ops.one ∷ cs) ≡ with_roots ops es)
     smaller_part cs ds es fs n differ nonzero together shortest other shorter =

@@ -1,10 +1,11 @@
 -- A polynomial with more roots than its degree is zero. So where a polynomial is a product of distinct factors x + e, the
 -- remainders of x and of x ^ (2 ^ n) by it are one.
-use Rattle.std.proofs.Common.{◌≡◌, ◌≢◌, ℕ, ◌+◌, ◌≤◌, List, [], ◌∷◌, length, get_or, refl, sym, ap, ◌∙◌, arith}
-use Rattle.std.specs.List.{All, AllPairs}
+use Rattle.std.proofs.Common.{◌≡◌, ℕ, ◌+◌, ◌≤◌, List, [], ◌∷◌, length, get_or, refl, sym, ap, ◌∙◌, arith}
+use Rattle.std.specs.List.{All}
 use Rattle.std.proofs.lemmas.List.{get_or_past}
 use Rattle.field_rules.specs.Ops.{Ops, IsRing}
 use Rattle.field_rules.specs.Fields.{IsField}
+use Rattle.field_rules.specs.Lists.{AreDistinct}
 use Rattle.poly_rules.specs.Polynomials.{coefficient, Same, IsTrimmed, IsMonic, value_at, sum_of}
 use Rattle.poly_rules.specs.Remainders.{IsFrobeniusTable}
 use Rattle.poly_rules.specs.Roots.{IsRoot, with_roots}
@@ -20,7 +21,7 @@ use Rattle.splitting_laws.proofs.Traces.{value_at-constant, value_at-frobenius}
 module _ {A : Type 0} (ops : Ops A) (ring : IsRing ops) (bits : ℕ) (field : IsField ops bits) where
   -- a polynomial with no more coefficients than it has distinct roots is zero: with the product of their factors it is
   -- monic of as high a degree as there are roots, so it is that product
-  pub zero_of_roots : (f es : List A) → length f ≤ length es → All (IsRoot ops f) es → AllPairs (λ a b. a ≢ b) es → Same ops f []
+  pub zero_of_roots : (f es : List A) → length f ≤ length es → All (IsRoot ops f) es → AreDistinct es → Same ops f []
   zero_of_roots f es short roots differ = record {
     each = λ i.
         plus_cancels ops ring (coefficient ops product i) (coefficient ops f i) ops.zero
@@ -57,7 +58,7 @@ module _ {A : Type 0} (ops : Ops A) (ring : IsRing ops) (bits : ℕ) (field : Is
       whole = factors_of_roots ops ring field.apart field.no_zero_divisor (length es) (sum_of ops f product) es sum_monic refl sum_roots differ
 
   -- polynomials with no more coefficients than there are elements where they agree are one
-  pub same_of_values : (f g es : List A) → length f ≤ length es → length g ≤ length es → AllPairs (λ a b. a ≢ b) es
+  pub same_of_values : (f g es : List A) → length f ≤ length es → length g ≤ length es → AreDistinct es
       → All (λ e. value_at ops f e ≡ value_at ops g e) es → Same ops f g
   same_of_values f g es short_f short_g differ agree =
       sum_none_same ops ring f g (zero_of_roots (sum_of ops f g) es short roots differ)
@@ -72,7 +73,7 @@ module _ {A : Type 0} (ops : Ops A) (ring : IsRing ops) (bits : ℕ) (field : Is
           ∙ ring.plus_self (value_at ops g (get_or es i d))
 
   -- the last row of the table of remainders is its first
-  pub frobenius_returns : (f es : List A) (table : List (List A)) → length f ≡ length es + 1 → All (IsRoot ops f) es → AllPairs (λ a b. a ≢ b) es
+  pub frobenius_returns : (f es : List A) (table : List (List A)) → length f ≡ length es + 1 → All (IsRoot ops f) es → AreDistinct es
       → IsFrobeniusTable ops f bits table → Same ops (get_or table 0 []) (get_or table bits [])
   frobenius_returns f es table size roots differ frobenius =
       same_of_values (get_or table 0 []) (get_or table bits []) es
@@ -86,7 +87,7 @@ module _ {A : Type 0} (ops : Ops A) (ring : IsRing ops) (bits : ℕ) (field : Is
       ∙ sym (value_at-frobenius ops ring f bits table (get_or es i d) frobenius (roots i d lt) bits (omega arith)))
 
   -- at the product of the factors of a set
-  pub frobenius_returns_at : (f es : List A) (table : List (List A)) → f ≡ with_roots ops es → AllPairs (λ a b. a ≢ b) es
+  pub frobenius_returns_at : (f es : List A) (table : List (List A)) → f ≡ with_roots ops es → AreDistinct es
       → IsFrobeniusTable ops f bits table → Same ops (get_or table 0 []) (get_or table bits [])
   frobenius_returns_at f es table is differ frobenius =
       frobenius_returns f es table (ap length is ∙ (with_roots-monic ops ring es).size)
@@ -94,14 +95,14 @@ module _ {A : Type 0} (ops : Ops A) (ring : IsRing ops) (bits : ℕ) (field : Is
       differ frobenius
 
   -- as lists, where neither ends in a zero
-  pub frobenius_returns_list : (f es : List A) (table : List (List A)) → f ≡ with_roots ops es → AllPairs (λ a b. a ≢ b) es
+  pub frobenius_returns_list : (f es : List A) (table : List (List A)) → f ≡ with_roots ops es → AreDistinct es
       → IsFrobeniusTable ops f bits table → IsTrimmed ops (get_or table 0 []) → IsTrimmed ops (get_or table bits []) → get_or table 0 [] ≡ get_or table bits []
   frobenius_returns_list f es table is differ frobenius first last =
       trimmed-same ops (get_or table 0 []) (get_or table bits []) first last (frobenius_returns_at f es table is differ frobenius)
 
   -- a polynomial with no more coefficients than there are elements is an element alone, where it has one value at all of
   -- them
-  pub constant_of_values : (t es : List A) (c : A) → 1 ≤ length es → length t ≤ length es → AllPairs (λ a b. a ≢ b) es
+  pub constant_of_values : (t es : List A) (c : A) → 1 ≤ length es → length t ≤ length es → AreDistinct es
       → All (λ e. value_at ops t e ≡ c) es → Same ops t (c ∷ [])
   constant_of_values t es c some short differ one =
       same_of_values t (c ∷ []) es short some differ (λ i d lt. one i d lt ∙ sym (value_at-constant ops ring c (get_or es i d)))

@@ -3,11 +3,12 @@
 #![tactic(auto)]
 
 ghost use Rattle.std.specs.Prelude.{◌≡◌, ◌≢◌, ℕ, ◌+◌, ◌*◌, ◌^◌, ◌≤◌, List, ◌∷◌, ◌++◌, length, reverse, get_or, []};
-ghost use Rattle.std.specs.List.{All, AllPairs};
+ghost use Rattle.std.specs.List.{All};
 ghost use Rattle.std.specs.List.Sorted.{IsPermutation};
 ghost use Rattle.field_rules.specs.Ops.{Ops, IsRing};
 ghost use Rattle.field_rules.specs.Fields.{IsField, IsToldApart, trace_of};
 ghost use Rattle.field_rules.specs.Numbered.{IsNumbered};
+ghost use Rattle.field_rules.specs.Lists.{AreDistinct};
 ghost use Rattle.sketch_rules.specs.PowerSums.{every_sum};
 ghost use Rattle.poly_rules.specs.Polynomials.{Same, value_at, sum_of};
 ghost use Rattle.poly_rules.specs.Remainders.{IsFrobeniusTable};
@@ -21,9 +22,9 @@ ghost use Rattle.splitting_laws.specs.Traces.{trace_polynomial};
 /// many sums as members; of two sets that have as many members together as there are sums, that of the shorter
 /// recurrence. It does nothing when it runs: its contract is the theorem.
 pub fn shortest_recurrence_has_the_set_for_roots<A>()
-    ensures whole { (ops : Ops A) (bits n : ℕ) (cs es : List A) → IsRing ops → IsField ops bits → AllPairs (λ a b. a ≢ b) es → All (λ e. e ≢ ops.zero) es
+    ensures whole { (ops : Ops A) (bits n : ℕ) (cs es : List A) → IsRing ops → IsField ops bits → AreDistinct es → All (λ e. e ≢ ops.zero) es
         → 2 * length es ≤ n → IsShortest ops cs (every_sum ops es 1 n) → reverse (ops.one ∷ cs) ≡ with_roots ops es }
-    ensures smaller { (ops : Ops A) (bits n : ℕ) (cs ds es fs : List A) → IsRing ops → IsField ops bits → AllPairs (λ a b. a ≢ b) es → All (λ e. e ≢ ops.zero) es
+    ensures smaller { (ops : Ops A) (bits n : ℕ) (cs ds es fs : List A) → IsRing ops → IsField ops bits → AreDistinct es → All (λ e. e ≢ ops.zero) es
         → length es + length fs ≡ n → IsShortest ops cs (every_sum ops es 1 n) → IsShortest ops ds (every_sum ops fs 1 n) → length cs ≤ length ds
         → reverse (ops.one ∷ cs) ≡ with_roots ops es }
     ensures extended { (ops : Ops A) (m n : ℕ) (f es s : List A) → IsRing ops → f ≡ with_roots ops es → length es ≤ m → m ≤ n → Extends ops f (every_sum ops es 1 m) n s
@@ -53,13 +54,13 @@ pub fn traces_tell_all_apart<A>()
     ensures others { (ops : Ops A) (bits_of : A → ℕ) (bits j : ℕ) (f t es : List A) (table : List (List A)) (b : A) → IsRing ops → IsField ops bits → IsNumbered ops bits_of bits
         → IsFrobeniusTable ops f bits table → All (IsRoot ops f) es → Same ops t (trace_polynomial ops b bits table) → bits_of b ≡ 2 ^ j → IsAlike ops bits_of bits j es
         → IsAlike ops bits_of bits (j + 1) (others_of ops bits_of t es) }
-    ensures ends { (ops : Ops A) (bits_of : A → ℕ) (bits : ℕ) (es : List A) → ((a b : A) → a ≢ b → IsToldApart ops bits_of bits a b) → AllPairs (λ a b. a ≢ b) es
+    ensures ends { (ops : Ops A) (bits_of : A → ℕ) (bits : ℕ) (es : List A) → ((a b : A) → a ≢ b → IsToldApart ops bits_of bits a b) → AreDistinct es
         → IsAlike ops bits_of bits bits es → length es ≤ 1 }
 {}
 
 /// The remainders of x and of x ^ (2 ^ bits) by a product of distinct factors x + e are one. It does nothing when it
 /// runs: its contract is the theorem.
 pub fn remainders_return<A>()
-    ensures { (ops : Ops A) (bits : ℕ) (f es : List A) (table : List (List A)) → IsRing ops → IsField ops bits → f ≡ with_roots ops es → AllPairs (λ a b. a ≢ b) es
+    ensures { (ops : Ops A) (bits : ℕ) (f es : List A) (table : List (List A)) → IsRing ops → IsField ops bits → f ≡ with_roots ops es → AreDistinct es
         → IsFrobeniusTable ops f bits table → Same ops (get_or table 0 []) (get_or table bits []) }
 {}

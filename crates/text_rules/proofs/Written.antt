@@ -1,7 +1,7 @@
 -- A set that was written, read again.
 use Rattle.std.proofs.Common.{◌≡◌, ◌≢◌, ℕ, zero, suc, ◌+◌, ◌==◌, ◌^◌, ◌<◌, false, List, [], ◌∷◌, ◌++◌, length, get_or, if◌then◌else◌, Ok, Err, refl, sym, ap, ◌∙◌, arith, append_assoc, lit<}
 use Rattle.std.specs.Int.{to_be_bytes, w32}
-use Rattle.std.specs.List.{All, AllPairs, list_any}
+use Rattle.std.specs.List.{All, list_any}
 use Rattle.std.proofs.lemmas.Bool.{eq-eqb, ne_eqb}
 use Rattle.std.proofs.lemmas.List.{append-nil}
 use Rattle.std.proofs.lemmas.List.Elements.{All-head, All-tail}
@@ -10,6 +10,7 @@ use Rattle.std.proofs.lemmas.Nat.{from_be_bytes-to_be_bytes_4}
 use Rattle.hex.specs.Hex.{IsBytes, decode_of, lower_digits}
 use Rattle.hex.proofs.HexLemmas.{decode_of-encode_lower, length-encode_with}
 use Rattle.base_types.specs.declared.text.Kind.TheVariants as kind
+use Rattle.field_rules.specs.Lists.{AreDistinct}
 use Rattle.line_rules.specs.Digits.{eight_digits}
 use Rattle.line_rules.specs.Lines.{lines, numbered}
 use Rattle.line_rules.specs.Reading.{behind, read_lines}
@@ -43,7 +44,7 @@ put_in-new : (s : List ℕ) (e : ℕ) → list_any (λ d. d == e) s ≡ false �
 put_in-new s e fresh = rw fresh refl
 
 -- it isn't one that comes later
-still_new : (s : List ℕ) (e : ℕ) (es : List ℕ) → AllPairs (λ a b. a ≢ b) (e ∷ es) → All (λ x. list_any (λ d. d == x) s ≡ false) (e ∷ es)
+still_new : (s : List ℕ) (e : ℕ) (es : List ℕ) → AreDistinct (e ∷ es) → All (λ x. list_any (λ d. d == x) s ≡ false) (e ∷ es)
     → All (λ x. list_any (λ d. d == x) (s ++ e ∷ []) ≡ false) es
 still_new s e es differ fresh k d within =
     let x = get_or es k d in
@@ -51,7 +52,7 @@ still_new s e es differ fresh k d within =
     list_any-append (λ y. y == x) s (e ∷ []) ∙ (rw (fresh (suc k) d (omega arith), ne_eqb e x other) refl)
 
 -- the lines of elements are read behind others
-read-elements : (es s : List ℕ) (n : ℕ) → All (λ e. (0 < e) × (e < 2 ^ 32)) es → AllPairs (λ a b. a ≢ b) es → All (λ e. list_any (λ d. d == e) s ≡ false) es
+read-elements : (es s : List ℕ) (n : ℕ) → All (λ e. (0 < e) × (e < 2 ^ 32)) es → AreDistinct es → All (λ e. list_any (λ d. d == e) s ≡ false) es
     → read_lines (λ ds bytes. put_in ds (element_of bytes)) s (numbered n (lines (set_text es))) ≡ Ok (s ++ es)
 unfolding read_lines lines numbered
 read-elements [] s n within differ fresh = ap Ok (sym (append-nil s))

@@ -1,12 +1,13 @@
 -- Elements as text: what `make` reads and `decode` writes.
-use Rattle.std.specs.Prelude.{◌≢◌, ℕ, ◌^◌, ◌<◌, ◌==◌, ◌++◌, if◌then◌else◌, List, [], ◌∷◌, length, codes, Result, Ok, Err}
-use Rattle.std.specs.List.{All, AllPairs, flat_map, list_any}
+use Rattle.std.specs.Prelude.{ℕ, ◌^◌, ◌<◌, ◌==◌, ◌++◌, if◌then◌else◌, List, [], ◌∷◌, length, codes, Result, Ok, Err}
+use Rattle.std.specs.List.{All, flat_map, list_any}
 use Rattle.std.specs.Int.{from_be_bytes, w32}
 use Rattle.hex.specs.Hex.{decode_of}
 use Rattle.hex.specs.declared.error.FromHexError.{FromHexError}
 use Rattle.base_types.specs.declared.text.Kind.{Kind}
 use Rattle.base_types.specs.declared.text.Kind.TheVariants as kind
 use Rattle.base_types.specs.declared.text.TextFault.{TextFault}
+use Rattle.field_rules.specs.Lists.{AreDistinct}
 use Rattle.line_rules.specs.Digits.{eight_digits}
 use Rattle.line_rules.specs.Lines.{line, lines_of}
 use Rattle.line_rules.specs.Reading.{read_lines}
@@ -35,7 +36,7 @@ set_in text = read_lines (λ es bytes. put_in es (element_of bytes)) [] (lines_o
 
 -- the numbers are a set of elements: each is from 1 on and below 2 ^ 32, and no two are equal
 abbrev pub IsSet : List ℕ → Type 0
-IsSet es = All (λ e. (0 < e) × (e < 2 ^ 32)) es × AllPairs (λ a b. a ≢ b) es
+IsSet es = All (λ e. (0 < e) × (e < 2 ^ 32)) es × AreDistinct es
 
 -- a set as text: the digits of each element as a line, in their order
 abbrev pub set_text : List ℕ → List ℕ

@@ -1,10 +1,11 @@
 -- When elements that were tried are the answer.
 use Rattle.std.proofs.Common.{◌≡◌, ◌≢◌, ℕ, ◌+◌, ◌*◌, ◌/◌, ◌^◌, ◌<◌, ◌≤◌, List, length, get_or, map, sym, ap, ◌∙◌, arith}
-use Rattle.std.specs.List.{All, AllPairs}
+use Rattle.std.specs.List.{All}
 use Rattle.std.proofs.lemmas.List.{length-map, get_or-map, get_or_default, ext_get_or}
 use borrow.Author.Count.{below_more}
 use Rattle.field_rules.specs.Ops.{Ops}
 use Rattle.field_rules.specs.Numbered.{IsNumbered}
+use Rattle.field_rules.specs.Lists.{AreDistinct}
 use Rattle.sketch_rules.specs.PowerSums.{IsAllSums, sketch_by}
 use Rattle.sketch_rules.specs.Sketches.{sketch_at}
 use Rattle.sketch_rules.specs.Answers.{Rises, Answer}
@@ -45,7 +46,7 @@ module _ {A : Type 0} (ops : Ops A) (bits_of : A → ℕ) (width : ℕ) (numbere
       omega (arith, get_or-map bits_of es k d (bits_of d) lt, ap bits_of same, numbered.zero_bits)
 
   -- and distinct
-  pub distinct_of_rises : (es : List A) → Rises 1 (2 ^ width) (map bits_of es) → AllPairs (λ a b. a ≢ b) es
+  pub distinct_of_rises : (es : List A) → Rises 1 (2 ^ width) (map bits_of es) → AreDistinct es
   distinct_of_rises es rises = distinct ops bits_of width numbered es (AllPairs-from_Rises 1 (2 ^ width) (map bits_of es) rises)
 
   module _ (m es sums odd : List A) (c : ℕ) (all : IsAllSums ops m sums) (capacity : c ≡ length sums / 2) where

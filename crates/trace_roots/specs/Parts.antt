@@ -1,9 +1,10 @@
 -- What is known of a part of a set while the set is taken apart.
 use Rattle.std.specs.Prelude.{◌≡◌, ◌≢◌, ℕ, suc, ◌+◌, ◌*◌, ◌^◌, ◌<◌, ◌≤◌, List, [], ◌∷◌, ◌++◌, length, get_or, reverse}
-use Rattle.std.specs.List.{All, AllPairs}
+use Rattle.std.specs.List.{All}
 use Rattle.std.specs.List.Sorted.{IsPermutation}
 use Rattle.field_rules.specs.Ops.{Ops}
 use Rattle.field_rules.specs.Fields.{trace_of}
+use Rattle.field_rules.specs.Lists.{AreDistinct}
 use Rattle.sketch_rules.specs.PowerSums.{power_sum, every_sum}
 use Rattle.poly_rules.specs.Polynomials.{coefficient, Same, IsMonic, degree, value_at}
 use Rattle.poly_rules.specs.Roots.{with_roots}
@@ -22,7 +23,7 @@ pub record Fits {A : Type 0} (ops : Ops A) (locator sums : List A) (traces : Lis
 
 -- distinct elements, none of them zero
 pub record IsSet {A : Type 0} (ops : Ops A) (es : List A) : Type 0 where
-  pub distinct : AllPairs (λ a b. a ≢ b) es
+  pub distinct : AreDistinct es
   pub nonzero : All (λ e. e ≢ ops.zero) es
 
 -- the trace polynomials over the table, for the places from the first on

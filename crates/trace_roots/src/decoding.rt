@@ -1,7 +1,8 @@
 //! The set that a sketch is of.
 
-ghost use Rattle.std.specs.Prelude.{◌≡◌, ◌≢◌, ◌↔◌, ℕ, ◌≤◌, ◌<◌, ◌^◌, List, length, map, IfOk, Some};
-ghost use Rattle.std.specs.List.{All, AllPairs};
+ghost use Rattle.std.specs.Prelude.{◌≡◌, ◌↔◌, ℕ, ◌≤◌, ◌<◌, ◌^◌, List, length, map, IfOk, Some};
+ghost use Rattle.std.specs.List.{All};
+ghost use Rattle.field_rules.specs.Lists.{AreDistinct};
 ghost use Rattle.sketch_rules.specs.Answers.{Answer, answer_at};
 ghost use Rattle.sketch_rules.specs.Sets.{difference};
 ghost use Rattle.sketch_rules.specs.Sketches.{merged, sketch_at};
@@ -20,7 +21,7 @@ pub fn decode<F: Field>(alloc: Global, sketch: &Sketch<F>) -> Result<Decoded<F>,
     ensures answer { IfOk result (λ decoded. in_numbers F.bits_of decoded ≡ answer_at F.BITS (map F.bits_of sketch.now)) }
     ensures exactly { IfOk result (λ decoded. (es : List ℕ) → (in_numbers F.bits_of decoded ≡ Some es) ↔ Answer F.BITS (map F.bits_of sketch.now) es) }
     ensures difference { (xs ys : List ℕ) → All (λ e. (0 < e) × (e < 2 ^ F.BITS)) xs → All (λ e. (0 < e) × (e < 2 ^ F.BITS)) ys
-        → AllPairs (λ a b. a ≢ b) xs → AllPairs (λ a b. a ≢ b) ys → length (difference xs ys) ≤ length sketch.now
+        → AreDistinct xs → AreDistinct ys → length (difference xs ys) ≤ length sketch.now
         → map F.bits_of sketch.now ≡ merged (sketch_at F.BITS xs (length sketch.now)) (sketch_at F.BITS ys (length sketch.now))
         → IfOk result (λ decoded. in_numbers F.bits_of decoded ≡ Some (difference xs ys)) }
 {

@@ -6,7 +6,8 @@ use super::*;
 use base_types::OutOfMemory;
 use bm_solver::shortest;
 use field_core::{Field, Gf32};
-use sketch_core::{Decoded, MAX_CAPACITY, Sketch};
+use sketch_core::{Decoded, Sketch};
+use sketch_rules::MAX_CAPACITY;
 use std::alloc::Global;
 
 /// The elements of these numbers.

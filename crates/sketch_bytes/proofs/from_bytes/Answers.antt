@@ -10,8 +10,8 @@ returns-then-bytes-ne0-clause-accepted g c sums capacity small is =
     let ragged : ¬ (length c.args.bytes.now % 4 ≡ 0) = λ e. absurd (omega arith) in
     inr (sym (ap read_bytes is ∙ read-bytes_of sums capacity small) ∙ read-ragged c.args.bytes.now ragged)
 
-pub returns-then-bytes-clause-accepted : goal.returns-then-bytes-clause-accepted
-returns-then-bytes-clause-accepted g c sums capacity small is =
+pub returns-then-bytes-gt-MAX_SKETCH_BYTES-clause-accepted : goal.returns-then-bytes-gt-MAX_SKETCH_BYTES-clause-accepted
+returns-then-bytes-gt-MAX_SKETCH_BYTES-clause-accepted g c sums capacity small is =
     inr (sym (ap read_bytes is ∙ read-bytes_of sums capacity small) ∙ read-wide c.args.bytes.now (omega arith) (omega arith))
 
 pub from_sums-requires : goal.from_sums-requires

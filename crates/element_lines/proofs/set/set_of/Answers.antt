@@ -3,10 +3,11 @@ use Rattle.std.specs.Bool.{⊤}
 use Rattle.std.specs.List.{All}
 use Rattle.std.proofs.lemmas.Option.{MatchOption-at_none, MatchOption-at_some}
 use Rattle.base_types.specs.declared.text.Kind.TheVariants as kind
+use Rattle.field_rules.specs.Lists.{AreDistinct}
 use Rattle.field_core.specs.Gf32.{bits_of}
 use Rattle.line_rules.specs.Lines.{Line, lines_of}
 use Rattle.element_lines.specs.Readings.{elements_before}
-use Rattle.element_lines.specs.Repeats.{AreDistinct, IsFirstRepeat}
+use Rattle.element_lines.specs.Repeats.{IsFirstRepeat}
 use Rattle.element_lines.proofs.Sets.{ended, set_distinct, set_repeat}
 use Rattle.element_lines.proofs.Spelled.{elements-above, line_there}
 use Rattle.element_lines.proofs.Numbers.{below}

@@ -1,6 +1,7 @@
 use Rattle.std.proofs.Common.{◌≡◌, ◌≢◌, ◌∙◌, List, map, ap, subst, sym}
 use Rattle.std.specs.Result.{IfOk}
-use Rattle.std.specs.List.{All, AllPairs}
+use Rattle.std.specs.List.{All}
+use Rattle.field_rules.specs.Lists.{AreDistinct}
 use Rattle.sketch_rules.specs.PowerSums.{sketch_by}
 use Rattle.sketch_rules.specs.Sketches.{sketch_of}
 use Rattle.field_core.specs.declared.gf32.Gf32.{Gf32}
@@ -18,8 +19,8 @@ of-requires-clause-nonzero c =
 
 pub of-requires-clause-distinct : goal.of-requires-clause-distinct
 of-requires-clause-distinct c =
-    let distinct : AllPairs (λ a b. a ≢ b) c.in-Ok.elements.items = apart c.in-Ok.elements.items c.in-Ok.ensures.distinct in
-    subst (λ (es : List Gf32). AllPairs (λ a b. a ≢ b) es) (sym c.as_slice.ensures.value) distinct
+    let distinct : AreDistinct c.in-Ok.elements.items = apart c.in-Ok.elements.items c.in-Ok.ensures.distinct in
+    subst (λ (es : List Gf32). AreDistinct es) (sym c.as_slice.ensures.value) distinct
 
 pub returns : goal.returns
 returns c =

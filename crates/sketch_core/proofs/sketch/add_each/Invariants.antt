@@ -1,5 +1,5 @@
 use Rattle.std.proofs.Common.{◌≡◌, ◌++◌, take, drop}
-use Rattle.sketch_core.specs.Sums.{sums_of_both}
+use Rattle.field_rules.specs.Lists.{sums_of_both}
 use Rattle.sketch_core.proofs.sketch.add_each.Given as goal
 
 abbrev pub invariant-loop-i : goal.invariant-loop-i

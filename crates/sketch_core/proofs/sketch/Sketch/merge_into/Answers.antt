@@ -1,5 +1,5 @@
 use Rattle.std.proofs.Common.{◌≡◌, length, map, drop, ◌∙◌, ap, arith}
-use Rattle.sketch_core.specs.Sums.{sums_of_both}
+use Rattle.field_rules.specs.Lists.{sums_of_both}
 use Rattle.sketch_core.proofs.Both.{written_back, both-numbers, merged_difference}
 use Rattle.sketch_core.proofs.sketch.Sketch.merge_into.Goals as goal
 

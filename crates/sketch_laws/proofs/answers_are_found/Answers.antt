@@ -1,6 +1,6 @@
 -- Both clauses are laws of the search.
 use Rattle.sketch_rules.specs.Answers.{answer_at-some, answer_at-none}
-use Rattle.poly_ops.proofs.uniqueness.answers_are_found.Goals as goal
+use Rattle.sketch_laws.proofs.answers_are_found.Goals as goal
 
 pub returns-clause-some : goal.returns-clause-some
 returns-clause-some c = answer_at-some
