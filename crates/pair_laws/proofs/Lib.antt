@@ -1,2 +1,6 @@
+pub mod Runs
 pub mod Growing
 pub mod Effects
+mod Samples
+mod RoundExample
+mod TwoRounds

@@ -1,8 +1,10 @@
--- A whole round of two nodes that have one transaction each. Nothing computes the set that a sketch is of, so it is a
--- premise here that the sketch of the difference is answered by the difference; that it is an answer is computed. The
--- worlds are written out, so that each step computes from plain values.
-use Rattle.std.proofs.Common.{◌≡◌, ℕ, List, [], ◌∷◌, ◌++◌, refl, ap, ◌∙◌, true, true≢false, ◌==◌, Option, Some, inr, lit<, lit≤}
+-- A whole round of two nodes that have one transaction each, up to what the headline says of the world that is left.
+-- Nothing computes the set that a sketch is of: that the difference is an answer to the sketch is computed, and a sketch
+-- has one answer. The worlds are written out, so that each step computes from plain values.
+use Rattle.std.proofs.Common.{◌≡◌, ℕ, List, [], ◌∷◌, ◌++◌, refl, sym, ap, subst, ◌∙◌, true, true≢false, ◌==◌, Option, Some, inr, lit<, lit≤}
+use Rattle.field_laws.proofs.Certified32.{certified_32}
 use Rattle.sketch_rules.specs.Answers.{Answer, Rises, answer_of}
+use Rattle.sketch_laws.proofs.Unique.{answer_at-exactly}
 use Rattle.wire_rules.specs.Layout.{on_wire}
 use Rattle.wire_rules.specs.declared.message.Message.{Message}
 use Rattle.wire_rules.specs.declared.message.Message.TheVariants as message
@@ -20,8 +22,8 @@ use Rattle.pair_rules.specs.Rounds.{Fits, Holds, IsFinished, pair_keys}
 use Rattle.pair_rules.specs.World.{World, Effect, IsDrained, run, run_from, unless_ended, happens, followed, deliveries}
 use Rattle.pair_rules.specs.declared.event.Event.{Event}
 use Rattle.pair_rules.specs.declared.event.Event.TheVariants as event
-use Rattle.pair_rules.proofs.Runs.{run_from-append}
-use Rattle.pair_rules.proofs.Samples.{happening, new_pair, drain, sketch_effect}
+use Rattle.pair_laws.proofs.Runs.{run_from-append}
+use Rattle.pair_laws.proofs.Samples.{happening, new_pair, drain, sketch_effect}
 
 abbrev all : ℕ
 all = 18446744073709551615
@@ -185,8 +187,15 @@ sketch_first = refl
 from_sketch : answer_of difference_sums ≡ Some both → (run_from (event.DeliverBa all ∷ deliveries 15) at_sketch).world ≡ last
 from_sketch h = sketch_first ∙ ap (λ (x : Effect). (followed x (run_from (deliveries 15) x.world)).world) (sketch_arrives h) ∙ goes_on
 
-whole : answer_of difference_sums ≡ Some both → (run new_pair script).world ≡ last
-whole h = run_from-append to_the_sketch (event.DeliverBa all ∷ deliveries 15) new_pair ∙ ap (λ w. (run_from (event.DeliverBa all ∷ deliveries 15) w).world) begins ∙ from_sketch h
+-- a sketch has one answer, and it is this one
+answered_by_both : answer_of difference_sums ≡ Some both
+answered_by_both = (answer_at-exactly 32 certified_32 difference_sums both).1 both_answer
+
+whole : (run new_pair script).world ≡ last
+whole =
+    run_from-append to_the_sketch (event.DeliverBa all ∷ deliveries 15) new_pair
+    ∙ ap (λ w. (run_from (event.DeliverBa all ∷ deliveries 15) w).world) begins
+    ∙ from_sketch answered_by_both
 
 -- ---- the round fits, and has left both snapshots in both pools
 
@@ -212,3 +221,10 @@ finished = record {
   rounds = ((λ fits. holds), tt);
   begun = refl;
 }
+
+-- so the script leaves a drained world that is finished, as the headline says of every one
+script_drains : IsDrained (run new_pair script).world
+script_drains = subst IsDrained (sym whole) drained
+
+script_finishes : IsFinished (run new_pair script).world
+script_finishes = subst IsFinished (sym whole) finished

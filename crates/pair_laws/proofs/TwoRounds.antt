@@ -1,8 +1,9 @@
 -- Two rounds of two nodes, with deliveries that cut a frame and additions while a round is under way: what is added before
--- the sketch arrives belongs to the first round, what is added behind the snapshot to the second. As for one round, it is
--- a premise that each sketch of the difference is answered by the difference.
-use Rattle.std.proofs.Common.{◌≡◌, ℕ, List, [], ◌∷◌, ◌++◌, refl, ap, ◌∙◌, true, false, Option, Some, lit<, lit≤}
+-- the sketch arrives belongs to the first round, what is added behind the snapshot to the second.
+use Rattle.std.proofs.Common.{◌≡◌, ℕ, List, [], ◌∷◌, ◌++◌, refl, sym, ap, subst, ◌∙◌, true, false, Option, Some, lit<, lit≤}
+use Rattle.field_laws.proofs.Certified32.{certified_32}
 use Rattle.sketch_rules.specs.Answers.{Answer, Rises, answer_of}
+use Rattle.sketch_laws.proofs.Unique.{answer_at-exactly}
 use Rattle.wire_rules.specs.Layout.{on_wire}
 use Rattle.wire_rules.specs.declared.message.Message.{Message}
 use Rattle.wire_rules.specs.declared.message.Message.TheVariants as message
@@ -18,9 +19,9 @@ use Rattle.pair_rules.specs.Rounds.{IsFinished}
 use Rattle.pair_rules.specs.World.{World, Effect, run, run_from, unless_ended, happens, followed, deliveries}
 use Rattle.pair_rules.specs.declared.event.Event.{Event}
 use Rattle.pair_rules.specs.declared.event.Event.TheVariants as event
-use Rattle.pair_rules.proofs.Runs.{run_from-append}
-use Rattle.pair_rules.proofs.RoundExample.{hello, abc, hello_member, abc_member, introduced}
-use Rattle.pair_rules.proofs.Samples.{happening, new_pair, drain, sketch_effect}
+use Rattle.pair_laws.proofs.Runs.{run_from-append}
+use Rattle.pair_laws.proofs.RoundExample.{hello, abc, hello_member, abc_member, introduced}
+use Rattle.pair_laws.proofs.Samples.{happening, new_pair, drain, sketch_effect}
 
 abbrev all : ℕ
 all = 18446744073709551615
@@ -231,8 +232,15 @@ by_first g h =
     ∙ (run_from-append to_second from_second first_answered.world
     ∙ (ap (λ w. (run_from from_second w).world) goes_on ∙ by_second h)))
 
-pub whole : answer_of hello_sums ≡ Some (0xd977c38b ∷ []) → answer_of abc_sums ≡ Some (0x7d73875b ∷ []) → (run new_pair script).world ≡ two_rounds
-whole g h = run_from-append to_first from_first new_pair ∙ (ap (λ w. (run_from from_first w).world) begins ∙ by_first g h)
+-- a sketch has one answer
+first_answer_found : answer_of hello_sums ≡ Some (0xd977c38b ∷ [])
+first_answer_found = (answer_at-exactly 32 certified_32 hello_sums (0xd977c38b ∷ [])).1 hello_answer
+
+second_answer_found : answer_of abc_sums ≡ Some (0x7d73875b ∷ [])
+second_answer_found = (answer_at-exactly 32 certified_32 abc_sums (0x7d73875b ∷ [])).1 abc_answer
+
+pub whole : (run new_pair script).world ≡ two_rounds
+whole = run_from-append to_first from_first new_pair ∙ (ap (λ w. (run_from from_first w).world) begins ∙ by_first first_answer_found second_answer_found)
 
 -- both rounds hold, whether or not they fit
 finished : IsFinished two_rounds
@@ -243,3 +251,6 @@ finished = record {
   rounds = ((λ fits. record { of_a = (record { a = refl; b = refl }, tt); of_b = tt }), ((λ fits. record { of_a = tt; of_b = (record { a = refl; b = refl }, tt) }), tt));
   begun = refl;
 }
+
+script_finishes : IsFinished (run new_pair script).world
+script_finishes = subst IsFinished (sym whole) finished

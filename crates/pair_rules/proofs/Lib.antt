@@ -1,4 +1,0 @@
-pub mod Samples
-pub mod Runs
-pub mod RoundExample
-pub mod TwoRounds
