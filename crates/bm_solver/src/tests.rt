@@ -35,49 +35,33 @@ fn solves(
     form: &[u32],
 ) -> Result<bool, OutOfMemory> {
     let locator = found(alloc, sums)?;
-    let monic = monic(alloc, &locator)?;
-    Ok(
-        locator.length() == length
-            && has_coefficients(locator.poly(), poly)
-            && has_coefficients(&monic, form),
-    )
+    let copied = monic(alloc, &locator)?;
+    let same = copied.coeffs() == locator.monic_form().coeffs()
+        && locator.length() == length
+        && has_coefficients(locator.poly(), poly);
+    Ok(same && has_coefficients(&locator.into_monic_form(), form))
 }
 
+// the sums of two powers, zeros, powers of 1 and of 2, every second item, and last coefficients that are zero
 #[test]
-fn sums_of_two_powers_need_two_coefficients(rt: HostRuntime) {
-    let solved = solves(rt.alloc(), &[3, 5, 9, 0x11], 2, &[1, 3, 2], &[2, 3, 1]);
-    assert_eq!(rt; solved, Ok(true));
-}
-
-#[test]
-fn zeros_need_no_coefficient(rt: HostRuntime) {
-    assert_eq!(rt; solves(rt.alloc(), &[], 0, &[1], &[1]), Ok(true));
-    assert_eq!(rt; solves(rt.alloc(), &[0, 0], 0, &[1], &[1]), Ok(true));
-}
-
-#[test]
-fn powers_need_their_quotient(rt: HostRuntime) {
-    assert_eq!(rt;
-        solves(rt.alloc(), &[1, 1, 1], 1, &[1, 1], &[1, 1]),
-        Ok(true)
-    );
-    assert_eq!(rt;
-        solves(rt.alloc(), &[1, 2, 4, 8], 1, &[1, 2], &[2, 1]),
-        Ok(true)
-    );
-}
-
-#[test]
-fn every_second_item_is_repeated(rt: HostRuntime) {
-    let solved = solves(rt.alloc(), &[0, 1, 0, 1], 2, &[1, 0, 1], &[1, 0, 1]);
-    assert_eq!(rt; solved, Ok(true));
-}
-
-#[test]
-fn the_last_coefficients_may_be_zero(rt: HostRuntime) {
-    assert_eq!(rt; solves(rt.alloc(), &[1, 0], 1, &[1], &[0, 1]), Ok(true));
-    let solved = solves(rt.alloc(), &[0, 0, 1, 0, 0, 0], 3, &[1], &[0, 0, 0, 1]);
-    assert_eq!(rt; solved, Ok(true));
+fn recurrences_are_known(rt: HostRuntime) {
+    for (sums, length, poly, form) in [
+        (
+            [3, 5, 9, 0x11].as_slice(),
+            2,
+            [1, 3, 2].as_slice(),
+            [2, 3, 1].as_slice(),
+        ),
+        (&[], 0, &[1], &[1]),
+        (&[0, 0], 0, &[1], &[1]),
+        (&[1, 1, 1], 1, &[1, 1], &[1, 1]),
+        (&[1, 2, 4, 8], 1, &[1, 2], &[2, 1]),
+        (&[0, 1, 0, 1], 2, &[1, 0, 1], &[1, 0, 1]),
+        (&[1, 0], 1, &[1], &[0, 1]),
+        (&[0, 0, 1, 0, 0, 0], 3, &[1], &[0, 0, 0, 1]),
+    ] {
+        assert_eq!(rt; solves(rt.alloc(), sums, length, poly, form), Ok(true));
+    }
 }
 
 #[test]

@@ -1,5 +1,5 @@
 -- The bytes of the sketches of two sets, read and decoded.
-use Rattle.std.proofs.Common.{◌≡◌, ◌⊎◌, inl, inr, ℕ, ◌^◌, ◌<◌, ◌≤◌, List, length, map, get_or, Result, Ok, Err, Option, Some, MatchResult, refl, sym, ap, subst, ◌∙◌, arith, if◌then◌else◌}
+use Rattle.std.proofs.Common.{◌≡◌, inl, inr, ℕ, ◌^◌, ◌<◌, ◌≤◌, List, length, Result, Ok, Err, Option, Some, MatchResult, refl, sym, ap, subst, ◌∙◌, if◌then◌else◌}
 use Rattle.std.specs.List.{All}
 use Rattle.std.proofs.lemmas.Bool.{eq-eqb}
 use Rattle.field_rules.specs.Ops.{Ops, IsRing}
@@ -18,7 +18,6 @@ use Rattle.sketch_bytes.proofs.Reading.{read-bytes_of}
 use Rattle.sketch_bytes.proofs.Sketches.{sketch_small}
 use Rattle.trace_roots.proofs.Decoded.{differs}
 use Rattle.set_difference.specs.Answers.{IsAnswered, decoded, read_sum, sum_of_both}
-use Rattle.set_difference.specs.declared.fault.DifferenceFault.{DifferenceFault}
 use Rattle.set_difference.specs.declared.fault.DifferenceFault.TheVariants as difference_fault
 
 -- of a call that answers a set: it is found, or memory is wanted

@@ -66,20 +66,6 @@ fn decoded(alloc: Global, sketch: &Sketch<Gf32>) -> Result<Option<Vec<u32>>, Out
     }
 }
 
-/// Whether these sums are decoded to this set.
-fn gives(alloc: Global, sums: &[u32], set: &[u32]) -> Result<bool, OutOfMemory> {
-    let sketch = sketch_from(alloc, sums)?;
-    let found = decoded(alloc, &sketch)?;
-    Ok(matches!(&found, Some(items) if items.as_slice() == set))
-}
-
-/// Whether these sums are decoded to no set.
-fn gives_none(alloc: Global, sums: &[u32]) -> Result<bool, OutOfMemory> {
-    let sketch = sketch_from(alloc, sums)?;
-    let found = decoded(alloc, &sketch)?;
-    Ok(matches!(&found, None))
-}
-
 /// Whether the sketch of this capacity of a set, given ascending, is decoded to that set.
 fn comes_back(alloc: Global, set: &[u32], capacity: usize) -> Result<bool, OutOfMemory> {
     let sketch = sketch_of(alloc, set, capacity)?;
@@ -144,48 +130,30 @@ fn last_of_the_dual_basis(alloc: Global) -> Result<Vec<Gf32>, OutOfMemory> {
     Ok(basis)
 }
 
-#[test]
-fn sums_are_decoded_to_their_set(rt: HostRuntime) {
-    let alloc = rt.alloc();
-    assert_eq!(rt; gives(alloc, &[3, 9], &[1, 2]), Ok(true));
-    assert_eq!(rt; gives(alloc, &[0, 6, 0x12, 0x7e], &[1, 2, 3]), Ok(true));
-    assert_eq!(rt; gives(alloc, &[3], &[3]), Ok(true));
+/// Whether these sums are decoded to this set, or to none.
+fn gives(alloc: Global, sums: &[u32], set: Option<&[u32]>) -> Result<bool, OutOfMemory> {
+    let sketch = sketch_from(alloc, sums)?;
+    let found = decoded(alloc, &sketch)?;
+    Ok(match (&found, set) {
+        (Some(items), Some(set)) => items.as_slice() == set,
+        (None, None) => true,
+        _ => false,
+    })
 }
 
+// two elements look like their sum at capacity 1: 1 and 2 like 3
 #[test]
-fn sums_of_no_set_are_decoded_to_none(rt: HostRuntime) {
-    let alloc = rt.alloc();
-    assert_eq!(rt; gives_none(alloc, &[0, 6]), Ok(true));
-    assert_eq!(rt; gives_none(alloc, &[0, 1, 1, 1]), Ok(true));
-}
-
-#[test]
-fn two_elements_look_like_their_sum_at_capacity_1(rt: HostRuntime) {
-    let alloc = rt.alloc();
-    let sketch = Sketch::of(alloc, &[Gf32::new(1), Gf32::new(2)], 1).expect(&rt, "memory");
-    let found = decoded(alloc, &sketch).expect(&rt, "memory");
-    assert!(rt; matches!(&found, Some(set) if set.as_slice() == [3].as_slice()));
-}
-
-#[test]
-fn zeros_are_decoded_to_the_empty_set(rt: HostRuntime) {
-    let alloc = rt.alloc();
-    let sketch = Sketch::<Gf32>::empty(alloc, 1024).expect(&rt, "memory");
-    let found = decoded(alloc, &sketch).expect(&rt, "memory");
-    assert!(rt; matches!(&found, Some(set) if set.is_empty()));
-}
-
-#[test]
-fn one_element_is_found(rt: HostRuntime) {
-    let alloc = rt.alloc();
-    for capacity in [1, 5] {
-        for number in [1, 0x8000_0000, 0xffff_ffff] {
-            assert_eq!(rt;
-                comes_back(alloc, &[number], capacity),
-                Ok(true),
-                "{number} at {capacity}"
-            );
-        }
+fn sums_are_decoded_to_their_set_or_to_none(rt: HostRuntime) {
+    let zeros = [0; 1024];
+    for (sums, set) in [
+        ([3, 9].as_slice(), Some([1, 2].as_slice())),
+        (&[0, 6, 0x12, 0x7e], Some(&[1, 2, 3])),
+        (&[3], Some(&[3])),
+        (zeros.as_slice(), Some(&[])),
+        (&[0, 6], None),
+        (&[0, 1, 1, 1], None),
+    ] {
+        assert_eq!(rt; gives(rt.alloc(), sums, set), Ok(true));
     }
 }
 
@@ -203,9 +171,17 @@ fn all_sums_of_two_elements_are_split(rt: HostRuntime) {
     assert!(rt; matches!(&found, Some(members) if members.as_slice() == set.as_slice()));
 }
 
+/// Whether one element comes back, also in a wider sketch.
+fn alone_comes_back(alloc: Global, number: u32) -> Result<bool, OutOfMemory> {
+    Ok(comes_back(alloc, &[number], 1)? && comes_back(alloc, &[number], 5)?)
+}
+
 #[test]
 fn sets_within_the_capacity_come_back(rt: HostRuntime) {
     let alloc = rt.alloc();
+    for number in [1, 0x8000_0000, 0xffff_ffff] {
+        assert_eq!(rt; alone_comes_back(alloc, number), Ok(true), "{number}");
+    }
     for size in [1, 2, 3, 7, 31, 64, 150, 300] {
         let set = random_set(alloc, 17, size).expect(&rt, "memory");
         for capacity in [size, size + 1, 2 * size] {
