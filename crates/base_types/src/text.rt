@@ -2,7 +2,7 @@
 
 use crate::Hash32;
 
-/// What is wrong with a text input, at a place that stands beside it.
+/// What is wrong with a text input, at a line number or a byte offset that stands beside it.
 #[derive(Clone, Copy, Debug, PartialEq, Eq)]
 pub enum Kind {
     /// A line has not as many digits as its kind has.

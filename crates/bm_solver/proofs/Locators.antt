@@ -2,7 +2,7 @@
 use Rattle.std.proofs.Common.{◌≡◌, ◌≢◌, ℕ, ◌≤◌, List, [], ◌∷◌, length, drop, reverse, sym, ap, ◌∙◌, arith}
 use Rattle.std.proofs.lemmas.List.{get_or-reverse, length-reverse, reverse-reverse}
 use Rattle.field_rules.specs.Ops.{Ops}
-use Rattle.poly_rules.specs.Polynomials.{coefficient, Same, IsTrimmed, IsMonic, degree}
+use Rattle.poly_rules.specs.Polynomials.{coefficient, IsSamePolynomial, IsTrimmed, IsMonic, degree}
 use Rattle.poly_laws.proofs.Remainders.{trimmed-same}
 use Rattle.bm_solver.specs.Locators.{coefficients_of}
 
@@ -22,7 +22,7 @@ module _ {A : Type 0} (ops : Ops A) where
   monic_is f monic = sym (reverse-reverse f) ∙ ap reverse (monic_turned f monic)
 
   -- a trimmed list that is the same polynomial is it
-  pub monic_only : (g f : List A) → ops.one ≢ ops.zero → IsTrimmed ops g → IsMonic ops (degree f) f → Same ops g f → g ≡ f
+  pub monic_only : (g f : List A) → ops.one ≢ ops.zero → IsTrimmed ops g → IsMonic ops (degree f) f → IsSamePolynomial ops g f → g ≡ f
   monic_only g f apart trimmed monic same = trimmed-same ops g f trimmed not_zero same
     where
       not_zero : IsTrimmed ops f

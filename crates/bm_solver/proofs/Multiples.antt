@@ -4,7 +4,7 @@ use Rattle.std.proofs.lemmas.List.{take-append-drop, length-take-le, length-map}
 use borrow.Rule.Slice.PartMut.{mid_of, put_mid}
 use Rattle.field_rules.specs.Ops.{Ops, IsRing}
 use Rattle.field_rules.specs.Fields.{with_multiple}
-use Rattle.poly_rules.specs.Polynomials.{sum_of, scaled}
+use Rattle.poly_rules.specs.Polynomials.{sum_of, scalar_multiple}
 use Rattle.poly_laws.proofs.Sums.{sum_none}
 use Rattle.poly_laws.proofs.Division.{with_multiple-sum}
 
@@ -23,15 +23,15 @@ module _ {A : Type 0} (ops : Ops A) (ring : IsRing ops) where
   sum_before (a ∷ u) v [] le = refl
   sum_before (a ∷ u) v (b ∷ g) le = ap (λ z. ops.plus a b ∷ z) (sum_before u v g (omega arith))
 
-  -- the part of n places from a on has the multiple of f
+  -- the n items from index a on have the multiple of f
   pub multiple_added : (acc part f : List A) (a n : ℕ) (k : A) → a + n ≤ length acc → length f ≡ n → part ≡ with_multiple ops (mid_of a n acc) k f
-      → put_mid a n acc part ≡ sum_of ops acc (replicate a ops.zero ++ scaled ops k f)
+      → put_mid a n acc part ≡ sum_of ops acc (replicate a ops.zero ++ scalar_multiple ops k f)
   multiple_added acc part f a n k within size is =
       ap (λ z. take a acc ++ (z ++ drop n (drop a acc))) (is ∙ with_multiple-sum ops k (mid_of a n acc) f (omega (arith, middle, size)))
-      ∙ ap (λ z. take a acc ++ z) (sym (sum_before (mid_of a n acc) (drop n (drop a acc)) (scaled ops k f) (omega (arith, length-map f (ops.times k), middle, size))))
-      ∙ sym (sum_behind (take a acc) (mid_of a n acc ++ drop n (drop a acc)) (scaled ops k f))
-      ∙ ap (λ z. sum_of ops (take a acc ++ (mid_of a n acc ++ drop n (drop a acc))) (replicate z ops.zero ++ scaled ops k f)) front
-      ∙ ap (λ z. sum_of ops z (replicate a ops.zero ++ scaled ops k f)) parts
+      ∙ ap (λ z. take a acc ++ z) (sym (sum_before (mid_of a n acc) (drop n (drop a acc)) (scalar_multiple ops k f) (omega (arith, length-map f (ops.times k), middle, size))))
+      ∙ sym (sum_behind (take a acc) (mid_of a n acc ++ drop n (drop a acc)) (scalar_multiple ops k f))
+      ∙ ap (λ z. sum_of ops (take a acc ++ (mid_of a n acc ++ drop n (drop a acc))) (replicate z ops.zero ++ scalar_multiple ops k f)) front
+      ∙ ap (λ z. sum_of ops z (replicate a ops.zero ++ scalar_multiple ops k f)) parts
     where
       front : length (take a acc) ≡ a
       front = length-take-le a acc (omega arith)

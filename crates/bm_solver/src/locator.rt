@@ -1,7 +1,7 @@
 //! Linear recurrences and their polynomials.
 
 ghost use Rattle.std.specs.Prelude.{◌≡◌, ◌∷◌, length, reverse, IfOk};
-ghost use Rattle.poly_rules.specs.Polynomials.{Same, IsMonic, degree};
+ghost use Rattle.poly_rules.specs.Polynomials.{IsSamePolynomial, IsMonic, degree};
 
 use base_types::OutOfMemory;
 use field_core::Field;
@@ -10,7 +10,7 @@ use std::alloc::Global;
 use std::marker::Model;
 
 /// A linear recurrence of length L: each item is `c_1` times the item before it, and `c_2` times the one before that,
-/// and so on to `c_L` times the one L places before. A contract sees it as its coefficients `c_1, .., c_L`.
+/// and so on to `c_L` times the one L items before. A contract sees it as its coefficients `c_1, .., c_L`.
 #[derive(Debug, Drop)]
 pub struct Locator<F: Field> {
     poly: Poly<F>,
@@ -54,7 +54,7 @@ impl<F: Field> Locator<F> {
 
     /// `1 + c_1 z + .. + c_L z^L`.
     pub fn poly(&self) -> &Poly<F>
-        ensures { Same F.ops result.now (F.ops.one ∷ self.now) }
+        ensures { IsSamePolynomial F.ops result.now (F.ops.one ∷ self.now) }
     {
         &self.poly
     }

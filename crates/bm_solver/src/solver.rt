@@ -3,8 +3,8 @@
 ghost use Rattle.std.specs.Prelude.{◌≡◌, ◌≢◌, ◌+◌, ◌*◌, ◌<◌, ◌≤◌, List, ◌∷◌, ◌++◌, length, replicate, reverse, IfOk};
 ghost use Rattle.std.specs.List.{All};
 ghost use Rattle.field_rules.specs.Lists.{AreDistinct};
-ghost use Rattle.sketch_rules.specs.PowerSums.{every_sum};
-ghost use Rattle.poly_rules.specs.Polynomials.{sum_of, scaled};
+ghost use Rattle.sketch_rules.specs.PowerSums.{power_sums};
+ghost use Rattle.poly_rules.specs.Polynomials.{sum_of, scalar_multiple};
 ghost use Rattle.poly_rules.specs.Recurrences.{IsShortest};
 ghost use Rattle.poly_rules.specs.Roots.{with_roots};
 ghost use Rattle.recurrence_laws.specs.Solving.{IsSolving};
@@ -22,7 +22,7 @@ pub fn shortest<F: Field>(alloc: Global, sums: &[F]) -> Result<Locator<F>, OutOf
     ensures shortest { IfOk result (λ locator. IsShortest F.ops locator sums.now) }
     ensures within { IfOk result (λ locator. length locator ≤ length sums.now) }
     ensures set { (es : List F) → AreDistinct es → All (λ e. e ≢ F.ops.zero) es → 2 * length es ≤ length sums.now
-        → sums.now ≡ every_sum F.ops es 1 (length sums.now)
+        → sums.now ≡ power_sums F.ops es 1 (length sums.now)
         → IfOk result (λ locator. (length locator ≡ length es) × (reverse (F.ops.one ∷ locator) ≡ with_roots F.ops es)) }
 {
     let mut solver = Solver::new(alloc, sums.len())?;
@@ -65,7 +65,7 @@ impl<F: Field> Solver<F> {
         })
     }
 
-    /// Reads the item at place n. The discrepancy is what it and the current recurrence's foretelling differ by.
+    /// Reads the item at index n. The discrepancy is what it and the current recurrence's foretelling differ by.
     fn read(&mut self, sums: &[F], n: usize) -> Result<(), OutOfMemory>
         requires inside { n < length sums.now }
         requires so_far { IsSolving F.ops sums.now n
@@ -95,11 +95,11 @@ impl<F: Field> Solver<F> {
         Ok(())
     }
 
-    /// Puts the current recurrence `shift` places further up, adds `k` times the saved one, and saves what it was.
+    /// Multiplies the current recurrence by `x ^ shift`, adds `k` times the saved one, and saves what it was.
     fn grow(&mut self, shift: usize, k: F) -> Result<(), OutOfMemory>
         requires { length self.old.saved.items ≤ shift + length self.old.current.items }
         ensures current { IfOk result (λ _. self.new.current.items
-            ≡ sum_of F.ops (replicate shift F.ops.zero ++ self.old.current.items) (scaled F.ops k self.old.saved.items)) }
+            ≡ sum_of F.ops (replicate shift F.ops.zero ++ self.old.current.items) (scalar_multiple F.ops k self.old.saved.items)) }
         ensures saved { IfOk result (λ _. self.new.saved.items ≡ self.old.current.items) }
     {
         self.spare.clear();
@@ -112,10 +112,10 @@ impl<F: Field> Solver<F> {
     }
 }
 
-/// Adds `k` times `f`, put `shift` places further up.
+/// Adds `k` times `f`, multiplied by `x ^ shift`.
 fn add_multiple<F: Field>(acc: &mut [F], shift: usize, k: F, f: &[F])
     requires { shift + length f.now ≤ length acc.old }
-    ensures { acc.new ≡ sum_of F.ops acc.old (replicate shift F.ops.zero ++ scaled F.ops k f.now) }
+    ensures { acc.new ≡ sum_of F.ops acc.old (replicate shift F.ops.zero ++ scalar_multiple F.ops k f.now) }
 {
     F::axpy(&mut acc[shift..shift + f.len()], k, f);
 }

@@ -6,13 +6,13 @@ abbrev pub next_count : ℕ → ℕ
 next_count n = min (n + 1) (2 ^ 64 - 1)
 
 -- a count rose: it is greater than before, or stands at its last value
-abbrev pub Rose : ℕ → ℕ → Type 0
-Rose before now = next_count before ≤ now
+abbrev pub HasRisen : ℕ → ℕ → Type 0
+HasRisen before now = next_count before ≤ now
 
 -- a count of faults never falls: a call that fails raises it, and one that succeeds leaves it
 pub record HasCause {T E : Type 0} (before now : ℕ) (result : Result T E) : Type 0 where
   pub later : before ≤ now
-  pub failed : OnErr result (Rose before now)
+  pub failed : OnErr result (HasRisen before now)
   pub success : OnOk result (now ≡ before)
 
 -- a count of faults after a call: one more where the call failed

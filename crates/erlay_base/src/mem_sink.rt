@@ -5,7 +5,7 @@ ghost use Rattle.std.specs.List.{Contains};
 ghost use Rattle.std.specs.Io.{WritesAtMost};
 ghost use Rattle.std.specs.Io.KnownBytes.{WriteAppends};
 ghost use Rattle.erlay_base.specs.Causes.{HasCause, next_count, count_if_failed};
-ghost use Rattle.erlay_base.specs.Moves.{TakesSome};
+ghost use Rattle.erlay_base.specs.Moves.{HasProgress};
 
 use crate::Sink;
 use crate::calls::{fault, is_to_fail};
@@ -71,7 +71,7 @@ impl Sink for MemSink {
 
     fn write(&mut self, piece: &[u8]) -> Result<usize, Failed>
         ensures bound { WritesAtMost result piece.now }
-        ensures some { TakesSome result piece.now }
+        ensures some { HasProgress result piece.now }
         ensures bytes { WriteAppends (Some self.old.written) (Some self.new.written) result piece.now }
         ensures cause { HasCause self.old.faults self.new.faults result }
         ensures failing { Contains self.old.failing self.new.calls → IsErr result }

@@ -2,8 +2,8 @@
 
 ghost use Rattle.std.specs.Prelude.{◌≡◌, ◌≢◌, ◌+◌, ◌<◌, ◌≤◌, IfOk, OnOk, vec_len};
 ghost use Rattle.std.specs.Io.KnownBytes.{Consumes, IsAtEnd};
-ghost use Rattle.erlay_base.specs.Causes.{Rose};
-ghost use Rattle.erlay_base.specs.Moves.{TakesCount};
+ghost use Rattle.erlay_base.specs.Causes.{HasRisen};
+ghost use Rattle.erlay_base.specs.Moves.{HasConsumed};
 
 use crate::Source;
 use std::alloc::Global;
@@ -29,10 +29,10 @@ pub fn read_all<S: Source>(alloc: Global, source: &mut S, limit: usize) -> Resul
     ensures all { IfOk result (λ bytes. Consumes (S.left source.old) (S.left source.new) bytes.items) }
     ensures end { OnOk result (IsAtEnd (S.left source.new)) }
     ensures within { IfOk result (λ bytes. vec_len bytes ≤ limit) }
-    ensures too_long { result ≡ Err ReadEnd.TooLong → TakesCount (S.left source.old) (S.left source.new) (λ n. n ≡ limit + 1) }
-    ensures stopped { result ≡ Err ReadEnd.Failed → TakesCount (S.left source.old) (S.left source.new) (λ n. n ≤ limit) }
-    ensures refused { result ≡ Err ReadEnd.OutOfMemory → TakesCount (S.left source.old) (S.left source.new) (λ n. n ≤ limit + 1) }
-    ensures failed { result ≡ Err ReadEnd.Failed → Rose (S.faults source.old) (S.faults source.new) }
+    ensures too_long { result ≡ Err ReadEnd.TooLong → HasConsumed (S.left source.old) (S.left source.new) (λ n. n ≡ limit + 1) }
+    ensures stopped { result ≡ Err ReadEnd.Failed → HasConsumed (S.left source.old) (S.left source.new) (λ n. n ≤ limit) }
+    ensures refused { result ≡ Err ReadEnd.OutOfMemory → HasConsumed (S.left source.old) (S.left source.new) (λ n. n ≤ limit + 1) }
+    ensures failed { result ≡ Err ReadEnd.Failed → HasRisen (S.faults source.old) (S.faults source.new) }
     ensures no_fault { result ≢ Err ReadEnd.Failed → S.faults source.new ≡ S.faults source.old }
     ensures later { S.faults source.old ≤ S.faults source.new }
 {

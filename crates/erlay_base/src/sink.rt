@@ -5,7 +5,7 @@ ghost use Rattle.std.specs.Io.{WritesAtMost};
 ghost use Rattle.std.specs.Io.KnownBytes.{WriteAppends};
 ghost use Rattle.std.specs.declared.option.Option.{Option};
 ghost use Rattle.erlay_base.specs.Causes.{HasCause};
-ghost use Rattle.erlay_base.specs.Moves.{TakesSome};
+ghost use Rattle.erlay_base.specs.Moves.{HasProgress};
 
 use base_types::Failed;
 
@@ -20,7 +20,7 @@ pub trait Sink {
     /// that isn't empty. A call that fails has written none.
     fn write(&mut self, piece: &[u8]) -> Result<usize, Failed>
         ensures bound { WritesAtMost result piece.now }
-        ensures some { TakesSome result piece.now }
+        ensures some { HasProgress result piece.now }
         ensures bytes { WriteAppends (written self.old) (written self.new) result piece.now }
         ensures cause { HasCause (faults self.old) (faults self.new) result };
 }

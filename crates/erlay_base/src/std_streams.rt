@@ -5,7 +5,7 @@ ghost use Rattle.std.specs.IoError.{error_kind};
 ghost use Rattle.std.specs.Io.{ReadsAtMost, WritesAtMost};
 ghost use Rattle.std.specs.Io.KnownBytes.{Appends, Keeps, ReadConsumes, WriteAppends};
 ghost use Rattle.erlay_base.specs.Causes.{HasCause, count_if_failed};
-ghost use Rattle.erlay_base.specs.Moves.{TakesSome, WritesFront};
+ghost use Rattle.erlay_base.specs.Moves.{HasProgress, WritesFront};
 
 use crate::calls::fault;
 use crate::{Sink, Source};
@@ -97,7 +97,7 @@ impl<W: Write + Drop> Sink for StdSink<W> {
 
     fn write(&mut self, piece: &[u8]) -> Result<usize, Failed>
         ensures bound { WritesAtMost result piece.now }
-        ensures some { TakesSome result piece.now }
+        ensures some { HasProgress result piece.now }
         ensures bytes { WriteAppends None None result piece.now }
         ensures cause { HasCause self.old.faults self.new.faults result }
         ensures faults { self.new.faults ≡ count_if_failed result self.old.faults }

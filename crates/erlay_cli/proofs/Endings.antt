@@ -11,19 +11,19 @@ use Rattle.std.specs.declared.option.Option.TheVariants.{Some, None}
 use Rattle.base_types.specs.declared.text.TextFault.{TextFault}
 use Rattle.sketch_rules.specs.Answers.{answer_of}
 use Rattle.line_rules.specs.Lines.{line}
-use Rattle.text_rules.specs.Elements.{set_in}
-use Rattle.text_rules.specs.Faults.{too_long}
-use Rattle.text_rules.specs.Limits.{input_limit}
-use Rattle.erlay_base.specs.Causes.{Rose}
+use Rattle.sketch_text_rules.specs.Elements.{set_in}
+use Rattle.sketch_text_rules.specs.Faults.{too_long_text}
+use Rattle.sketch_text_rules.specs.Limits.{input_limit}
+use Rattle.erlay_base.specs.Causes.{HasRisen}
 use Rattle.erlay_cli.specs.SketchLines.{sketch_in, sum_in}
 use Rattle.erlay_cli.specs.declared.command.Command.{Command}
 use Rattle.erlay_cli.specs.declared.command.Command.TheVariants as command
 use Rattle.erlay_cli.specs.declared.status.Status.{Status}
 use Rattle.erlay_cli.specs.declared.status.Status.TheVariants as status
-use Rattle.erlay_cli.specs.Words.{HasForm, Asks}
-use Rattle.erlay_cli.specs.Outside.{Seen, Reads, IsWholeOrTooLong}
-use Rattle.erlay_cli.specs.Answers.{Answer, Leads, answer_to, decoded, found, made, summed, work_of}
-use Rattle.erlay_cli.specs.Ends.{Ends, Finishes, IsAnswer, IsAnswerTo}
+use Rattle.erlay_cli.specs.Words.{HasForm, HasCommand}
+use Rattle.erlay_cli.specs.Outside.{Observation, HasRead, IsWholeOrTooLong}
+use Rattle.erlay_cli.specs.Answers.{Answer, HasAnswer, answer_to, decode_answer, set_answer, make_answer, merge_answer, answer_within_limit}
+use Rattle.erlay_cli.specs.Ends.{IsEnding, IsWritten, IsAnswer, IsAnswerTo}
 
 -- two names
 other_name : codes "merge" ∷ [] ≡ codes "decode" ∷ [] → ⊥
@@ -53,26 +53,26 @@ all_or_too_long text input (Some rest) consumes (inr long) =
     inr (omega (arith, long), omega (arith, long, simp length-append at len))
 
 -- the answer to an input above the limit does not go by its bytes
-long_answer : (c : Command) (text : List ℕ) → input_limit < length text → answer_to c text ≡ record { status = status.TooLong input_limit; text = line (too_long input_limit) }
+long_answer : (c : Command) (text : List ℕ) → input_limit < length text → answer_to c text ≡ record { status = status.TooLong input_limit; text = line (too_long_text input_limit) }
 long_answer c text long = rw (lt-ltb input_limit (length text) long) refl
 
-pub short_answer : (c : Command) (text : List ℕ) → length text ≤ input_limit → answer_to c text ≡ work_of c text
+pub short_answer : (c : Command) (text : List ℕ) → length text ≤ input_limit → answer_to c text ≡ answer_within_limit c text
 short_answer c text short = rw (le-ltb input_limit (length text) short) refl
 
 -- what was read leads to what the whole input leads to
 leads_whole : (c : Command) (text input : List ℕ) (end : Status) (t : List ℕ) → (text ≡ input) ⊎ ((input_limit < length input) × (input_limit < length text))
-    → Leads c input end t → Leads c text end t
-leads_whole c text input end t (inl same) leads = subst (λ (bytes : List ℕ). Leads c bytes end t) (sym same) leads
+    → HasAnswer c input end t → HasAnswer c text end t
+leads_whole c text input end t (inl same) leads = subst (λ (bytes : List ℕ). HasAnswer c bytes end t) (sym same) leads
 leads_whole c text input end t (inr long) leads =
     let same : answer_to c input ≡ answer_to c text = long_answer c input long.0 ∙ sym (long_answer c text long.1) in
     (leads.0 ∙ ap (λ (a : Answer). a.status) same, leads.1 ∙ ap (λ (a : Answer). a.text) same)
 
-module _ (words : List (List ℕ)) (old new : Seen) (c : Command) (text : List ℕ) (form : HasForm words c) (told : old.bytes ≡ Some text) where
+module _ (words : List (List ℕ)) (old new : Observation) (c : Command) (text : List ℕ) (form : HasForm words c) (told : old.bytes ≡ Some text) where
   -- an answer that read its input
-  answer_read : (end : Status) (t : List ℕ) → Asks words (λ d. Reads old new (λ input. Leads d input end t)) → Leads c text end t
+  answer_read : (end : Status) (t : List ℕ) → HasCommand words (λ d. HasRead old new (λ input. HasAnswer d input end t)) → HasAnswer c text end t
   answer_read end t (d, asks, (input, consumes, either, quiet, leads)) =
       let same = one_form words d c asks form in
-      leads_whole c text input end t (all_or_too_long text input new.bytes (rw (← told) consumes) either) (subst (λ (x : Command). Leads x input end t) same leads)
+      leads_whole c text input end t (all_or_too_long text input new.bytes (rw (← told) consumes) either) (subst (λ (x : Command). HasAnswer x input end t) same leads)
 
   pub answer_told : (end : Status) (t : List ℕ) → IsAnswer words old new end t → IsAnswerTo c text end t
   answer_told status.Ok t answer = answer_read status.Ok t answer
@@ -85,8 +85,8 @@ module _ (words : List (List ℕ)) (old new : Seen) (c : Command) (text : List �
   answer_told status.WriteFault t answer = absurd answer
 
 -- the end of a call whose text was written whole
-written_whole : (Answer : Status → List ℕ → Type 0) (old new : Seen) (end : Status) (text : List ℕ) → (Answer status.WriteFault text → ⊥)
-    → Answer end text → Appends old.bytes new.bytes text → new.faults ≡ old.faults → Ends Answer old new end
+written_whole : (Answer : Status → List ℕ → Type 0) (old new : Observation) (end : Status) (text : List ℕ) → (Answer status.WriteFault text → ⊥)
+    → Answer end text → Appends old.bytes new.bytes text → new.faults ≡ old.faults → IsEnding Answer old new end
 written_whole Answer old new status.WriteFault text none answer wrote quiet = absurd (none answer)
 written_whole Answer old new status.Ok text none answer wrote quiet = (text, answer, wrote, quiet)
 written_whole Answer old new status.Usage text none answer wrote quiet = (text, answer, wrote, quiet)
@@ -97,31 +97,31 @@ written_whole Answer old new status.ReadFault text none answer wrote quiet = (te
 written_whole Answer old new status.OutOfMemory text none answer wrote quiet = (text, answer, wrote, quiet)
 
 -- the end of a call that had an answer, and then wrote it
-pub finished : (Answer : Status → List ℕ → Type 0) (old new : Seen) (end : Status) (text : List ℕ) (result : Status) → (Answer status.WriteFault text → ⊥)
-    → Answer end text → Finishes end text old new result → Ends Answer old new result
+pub finished : (Answer : Status → List ℕ → Type 0) (old new : Observation) (end : Status) (text : List ℕ) (result : Status) → (Answer status.WriteFault text → ⊥)
+    → Answer end text → IsWritten end text old new result → IsEnding Answer old new result
 finished Answer old new end text result none answer (inl (same, wrote, quiet)) =
-    subst (λ (r : Status). Ends Answer old new r) (sym same) (written_whole Answer old new end text none answer wrote quiet)
+    subst (λ (r : Status). IsEnding Answer old new r) (sym same) (written_whole Answer old new end text none answer wrote quiet)
 finished Answer old new end text result none answer (inr (same, rose, part)) =
-    subst (λ (r : Status). Ends Answer old new r) (sym same) (rose, (end, text, answer, part))
+    subst (λ (r : Status). IsEnding Answer old new r) (sym same) (rose, (end, text, answer, part))
 
 -- no answer is a failed write, nor that the words have no form
-made_ends : (capacity : ℕ) (r : Result (List ℕ) TextFault) → ((made capacity r).status ≢ status.WriteFault) × ((made capacity r).status ≢ status.Usage)
+made_ends : (capacity : ℕ) (r : Result (List ℕ) TextFault) → ((make_answer capacity r).status ≢ status.WriteFault) × ((make_answer capacity r).status ≢ status.Usage)
 made_ends capacity (Ok es) = (λ e. cc, λ e. cc)
 made_ends capacity (Err f) = (λ e. cc, λ e. cc)
 
-summed_ends : (r : Result (List ℕ) TextFault) → ((summed r).status ≢ status.WriteFault) × ((summed r).status ≢ status.Usage)
+summed_ends : (r : Result (List ℕ) TextFault) → ((merge_answer r).status ≢ status.WriteFault) × ((merge_answer r).status ≢ status.Usage)
 summed_ends (Ok es) = (λ e. cc, λ e. cc)
 summed_ends (Err f) = (λ e. cc, λ e. cc)
 
-found_ends : (r : Option (List ℕ)) → ((found r).status ≢ status.WriteFault) × ((found r).status ≢ status.Usage)
+found_ends : (r : Option (List ℕ)) → ((set_answer r).status ≢ status.WriteFault) × ((set_answer r).status ≢ status.Usage)
 found_ends (Some es) = (λ e. cc, λ e. cc)
 found_ends None = (λ e. cc, λ e. cc)
 
-decoded_ends : (r : Result (List ℕ) TextFault) → ((decoded r).status ≢ status.WriteFault) × ((decoded r).status ≢ status.Usage)
+decoded_ends : (r : Result (List ℕ) TextFault) → ((decode_answer r).status ≢ status.WriteFault) × ((decode_answer r).status ≢ status.Usage)
 decoded_ends (Ok sums) = found_ends (answer_of sums)
 decoded_ends (Err f) = (λ e. cc, λ e. cc)
 
-work_ends : (c : Command) (input : List ℕ) → ((work_of c input).status ≢ status.WriteFault) × ((work_of c input).status ≢ status.Usage)
+work_ends : (c : Command) (input : List ℕ) → ((answer_within_limit c input).status ≢ status.WriteFault) × ((answer_within_limit c input).status ≢ status.Usage)
 work_ends (command.Make capacity) input = made_ends capacity (set_in input)
 work_ends command.Merge input = summed_ends (sum_in input)
 work_ends command.Decode input = decoded_ends (sketch_in input)
@@ -138,23 +138,23 @@ no_write_fault c input t answer = (answer_ends c input).0 (sym answer.0)
 -- ---- where no count of faults rose
 
 -- a failed read has its cause
-pub read_cause : (words : List (List ℕ)) (old new out_old out_new : Seen) (result : Status) → Ends (IsAnswer words old new) out_old out_new result
-    → result ≡ status.ReadFault → Rose old.faults new.faults
+pub read_cause : (words : List (List ℕ)) (old new out_old out_new : Observation) (result : Status) → IsEnding (IsAnswer words old new) out_old out_new result
+    → result ≡ status.ReadFault → HasRisen old.faults new.faults
 read_cause words old new out_old out_new result ended same =
-    let at = subst (λ (r : Status). Ends (IsAnswer words old new) out_old out_new r) same ended in at.1.0.2
+    let at = subst (λ (r : Status). IsEnding (IsAnswer words old new) out_old out_new r) same ended in at.1.0.2
 
 -- a run that ended with neither a failed read nor a failed write had no failed read
-pub no_read_failed : (words : List (List ℕ)) (old new out_old out_new : Seen) (result : Status) → Ends (IsAnswer words old new) out_old out_new result
+pub no_read_failed : (words : List (List ℕ)) (old new out_old out_new : Observation) (result : Status) → IsEnding (IsAnswer words old new) out_old out_new result
     → result ≢ status.ReadFault → result ≢ status.WriteFault → new.faults ≡ old.faults
 no_read_failed words old new out_old out_new status.ReadFault ended no_read no_write = absurd (no_read refl)
 no_read_failed words old new out_old out_new status.WriteFault ended no_read no_write = absurd (no_write refl)
-no_read_failed words old new out_old out_new status.Usage ended no_read no_write = ap (λ (s : Seen). s.faults) ended.1.1
+no_read_failed words old new out_old out_new status.Usage ended no_read no_write = ap (λ (s : Observation). s.faults) ended.1.1
 no_read_failed words old new out_old out_new status.OutOfMemory ended no_read no_write = ended.1.0.2
 no_read_failed words old new out_old out_new end ended no_read no_write = ended.1.2.3
 
 -- the call ends as the command's answer says, or memory ran out
-pub ends_as_answered : (c : Command) (text : List ℕ) (old new : Seen) (result : Status) → Ends (IsAnswerTo c text) old new result
-    → result ≢ status.ReadFault → ¬ Rose old.faults new.faults → (result ≡ (answer_to c text).status) ⊎ (result ≡ status.OutOfMemory)
+pub ends_as_answered : (c : Command) (text : List ℕ) (old new : Observation) (result : Status) → IsEnding (IsAnswerTo c text) old new result
+    → result ≢ status.ReadFault → ¬ HasRisen old.faults new.faults → (result ≡ (answer_to c text).status) ⊎ (result ≡ status.OutOfMemory)
 ends_as_answered c text old new status.ReadFault ended no_read no_write = absurd (no_read refl)
 ends_as_answered c text old new status.WriteFault ended no_read no_write = absurd (no_write ended.0)
 ends_as_answered c text old new status.OutOfMemory ended no_read no_write = inr refl

@@ -4,9 +4,9 @@ use Rattle.base_types.specs.declared.text.TextFault.{TextFault}
 use Rattle.sketch_rules.specs.Answers.{answer_of}
 use Rattle.sketch_rules.specs.Sketches.{digits_of, sketch_of}
 use Rattle.line_rules.specs.Lines.{line}
-use Rattle.text_rules.specs.Elements.{no_set, set_in, set_text}
-use Rattle.text_rules.specs.Faults.{bad_input, too_long}
-use Rattle.text_rules.specs.Limits.{input_limit}
+use Rattle.sketch_text_rules.specs.Elements.{no_set_text, set_in, set_text}
+use Rattle.sketch_text_rules.specs.Faults.{bad_input_text, too_long_text}
+use Rattle.sketch_text_rules.specs.Limits.{input_limit}
 use Rattle.erlay_cli.specs.SketchLines.{sketch_in, sum_in}
 use Rattle.erlay_cli.specs.declared.command.Command.{Command}
 use Rattle.erlay_cli.specs.declared.command.Command.TheVariants as command
@@ -19,47 +19,47 @@ pub record Answer : Type 0 where
   pub status : Status
   pub text : List ℕ
 
-abbrev pub faulty : TextFault → Answer
-faulty f = record { status = status.BadInput f.place f.kind; text = line (bad_input f.place f.kind) }
+abbrev pub fault_answer : TextFault → Answer
+fault_answer f = record { status = status.BadInput f.place f.kind; text = line (bad_input_text f.place f.kind) }
 
 -- a sketch, as its line
-abbrev pub sketched : List ℕ → Answer
-sketched sums = record { status = status.Ok; text = line (digits_of sums) }
+abbrev pub sketch_answer : List ℕ → Answer
+sketch_answer sums = record { status = status.Ok; text = line (digits_of sums) }
 
 -- the sketch of a set, or why there is none
-abbrev pub made : ℕ → Result (List ℕ) TextFault → Answer
-made capacity (Ok es) = sketched (sketch_of es capacity)
-made capacity (Err f) = faulty f
+abbrev pub make_answer : ℕ → Result (List ℕ) TextFault → Answer
+make_answer capacity (Ok es) = sketch_answer (sketch_of es capacity)
+make_answer capacity (Err f) = fault_answer f
 
 -- a sketch, or why there is none
-abbrev pub summed : Result (List ℕ) TextFault → Answer
-summed (Ok sums) = sketched sums
-summed (Err f) = faulty f
+abbrev pub merge_answer : Result (List ℕ) TextFault → Answer
+merge_answer (Ok sums) = sketch_answer sums
+merge_answer (Err f) = fault_answer f
 
 -- a set, as its lines, or that there is none
-abbrev pub found : Option (List ℕ) → Answer
-found (Some es) = record { status = status.Ok; text = set_text es }
-found None = record { status = status.NoSet; text = line no_set }
+abbrev pub set_answer : Option (List ℕ) → Answer
+set_answer (Some es) = record { status = status.Ok; text = set_text es }
+set_answer None = record { status = status.NoSet; text = line no_set_text }
 
 -- the set that has a sketch, or why there is no sketch
-abbrev pub decoded : Result (List ℕ) TextFault → Answer
-decoded (Ok sums) = found (answer_of sums)
-decoded (Err f) = faulty f
+abbrev pub decode_answer : Result (List ℕ) TextFault → Answer
+decode_answer (Ok sums) = set_answer (answer_of sums)
+decode_answer (Err f) = fault_answer f
 
 -- what a command answers to an input within the limit
-abbrev pub work_of : Command → List ℕ → Answer
-work_of (command.Make capacity) input = made capacity (set_in input)
-work_of command.Merge input = summed (sum_in input)
-work_of command.Decode input = decoded (sketch_in input)
+abbrev pub answer_within_limit : Command → List ℕ → Answer
+answer_within_limit (command.Make capacity) input = make_answer capacity (set_in input)
+answer_within_limit command.Merge input = merge_answer (sum_in input)
+answer_within_limit command.Decode input = decode_answer (sketch_in input)
 
 -- what a command answers to an input
 abbrev pub answer_to : Command → List ℕ → Answer
-answer_to c input = if nat_lt input_limit (length input) then record { status = status.TooLong input_limit; text = line (too_long input_limit) } else work_of c input
+answer_to c input = if nat_lt input_limit (length input) then record { status = status.TooLong input_limit; text = line (too_long_text input_limit) } else answer_within_limit c input
 
 -- the status and the text are the command's answer to the input
-abbrev pub Leads : Command → List ℕ → Status → List ℕ → Type 0
-Leads c input end text = (end ≡ (answer_to c input).status) × (text ≡ (answer_to c input).text)
+abbrev pub HasAnswer : Command → List ℕ → Status → List ℕ → Type 0
+HasAnswer c input end text = (end ≡ (answer_to c input).status) × (text ≡ (answer_to c input).text)
 
 -- the report has the status and the text of the answer
-abbrev pub Reports : Report → Answer → Type 0
-Reports report answer = (report.status ≡ answer.status) × (report.text.items ≡ answer.text)
+abbrev pub IsReportOf : Report → Answer → Type 0
+IsReportOf report answer = (report.status ≡ answer.status) × (report.text.items ≡ answer.text)

@@ -1,39 +1,39 @@
 -- How a call of the program ends: each status with its cause, and what was written.
 use Rattle.std.specs.Prelude.{◌≡◌, ℕ, ◌+◌, ◌⊎◌, List}
 use Rattle.std.specs.Io.KnownBytes.{Appends}
-use Rattle.erlay_base.specs.Causes.{Rose}
-use Rattle.erlay_base.specs.Moves.{WritesPart}
+use Rattle.erlay_base.specs.Causes.{HasRisen}
+use Rattle.erlay_base.specs.Moves.{HasWrittenPart}
 use Rattle.line_rules.specs.Lines.{line}
-use Rattle.text_rules.specs.Faults.{usage, read_fault, out_of_memory}
-use Rattle.text_rules.specs.Limits.{input_limit}
+use Rattle.sketch_text_rules.specs.Faults.{usage_text, read_fault_text, out_of_memory_text}
+use Rattle.sketch_text_rules.specs.Limits.{input_limit}
 use Rattle.erlay_cli.specs.declared.command.Command.{Command}
 use Rattle.erlay_cli.specs.declared.status.Status.{Status}
 use Rattle.erlay_cli.specs.declared.status.Status.TheVariants as status
 use Rattle.erlay_cli.specs.Codes.{code_of}
-use Rattle.erlay_cli.specs.Words.{IsFormless, Asks}
-use Rattle.erlay_cli.specs.Outside.{Seen, Reads, ReadsAtMost}
-use Rattle.erlay_cli.specs.Answers.{Leads, answer_to}
+use Rattle.erlay_cli.specs.Words.{IsFormless, HasCommand}
+use Rattle.erlay_cli.specs.Outside.{Observation, HasRead, ReadsAtMost}
+use Rattle.erlay_cli.specs.Answers.{HasAnswer, answer_to}
 
 -- the status and its text, with their cause, but for a failed write: the input before and after it. A failed read is
 -- no want of memory
-abbrev pub IsAnswer : List (List ℕ) → Seen → Seen → Status → List ℕ → Type 0
-IsAnswer words old new status.Usage text = IsFormless words × (new ≡ old) × (text ≡ line usage)
-IsAnswer words old new status.ReadFault text = Asks words (λ c. Rose old.faults new.faults) × ReadsAtMost old new input_limit × (text ≡ line read_fault)
-IsAnswer words old new status.OutOfMemory text = Asks words (λ c. new.faults ≡ old.faults) × ReadsAtMost old new (input_limit + 1) × (text ≡ line out_of_memory)
+abbrev pub IsAnswer : List (List ℕ) → Observation → Observation → Status → List ℕ → Type 0
+IsAnswer words old new status.Usage text = IsFormless words × (new ≡ old) × (text ≡ line usage_text)
+IsAnswer words old new status.ReadFault text = HasCommand words (λ c. HasRisen old.faults new.faults) × ReadsAtMost old new input_limit × (text ≡ line read_fault_text)
+IsAnswer words old new status.OutOfMemory text = HasCommand words (λ c. new.faults ≡ old.faults) × ReadsAtMost old new (input_limit + 1) × (text ≡ line out_of_memory_text)
 IsAnswer words old new status.WriteFault text = ⊥
-IsAnswer words old new end text = Asks words (λ c. Reads old new (λ input. Leads c input end text))
+IsAnswer words old new end text = HasCommand words (λ c. HasRead old new (λ input. HasAnswer c input end text))
 
 -- the whole text of the answer was written, and no write failed; or one failed, and a proper front part of an answer's
 -- text was written
-abbrev pub Ends : (Status → List ℕ → Type 0) → Seen → Seen → Status → Type 0
-Ends Answer old new status.WriteFault = Rose old.faults new.faults × ((end : Status) × (text : List ℕ) × Answer end text × WritesPart old.bytes new.bytes text)
-Ends Answer old new end = (text : List ℕ) × Answer end text × Appends old.bytes new.bytes text × (new.faults ≡ old.faults)
+abbrev pub IsEnding : (Status → List ℕ → Type 0) → Observation → Observation → Status → Type 0
+IsEnding Answer old new status.WriteFault = HasRisen old.faults new.faults × ((end : Status) × (text : List ℕ) × Answer end text × HasWrittenPart old.bytes new.bytes text)
+IsEnding Answer old new end = (text : List ℕ) × Answer end text × Appends old.bytes new.bytes text × (new.faults ≡ old.faults)
 
 -- over an input of these bytes: a status and text that the command may answer; want of memory alone is free
 abbrev pub IsAnswerTo : Command → List ℕ → Status → List ℕ → Type 0
-IsAnswerTo c input status.ReadFault text = text ≡ line read_fault
-IsAnswerTo c input status.OutOfMemory text = text ≡ line out_of_memory
-IsAnswerTo c input end text = Leads c input end text
+IsAnswerTo c input status.ReadFault text = text ≡ line read_fault_text
+IsAnswerTo c input status.OutOfMemory text = text ≡ line out_of_memory_text
+IsAnswerTo c input end text = HasAnswer c input end text
 
 -- the command's answer to the input is Ok, or that no set has its sketch
 abbrev pub IsSound : Command → List ℕ → Type 0
@@ -41,10 +41,10 @@ IsSound c input = ((answer_to c input).status ≡ status.Ok) ⊎ ((answer_to c i
 
 -- the text was written whole, no write failed and the call ends as it was to; or a write failed, and a proper front
 -- part was written
-abbrev pub Finishes : Status → List ℕ → Seen → Seen → Status → Type 0
-Finishes end text old new result =
+abbrev pub IsWritten : Status → List ℕ → Observation → Observation → Status → Type 0
+IsWritten end text old new result =
     ((result ≡ end) × Appends old.bytes new.bytes text × (new.faults ≡ old.faults))
-    ⊎ ((result ≡ status.WriteFault) × Rose old.faults new.faults × WritesPart old.bytes new.bytes text)
+    ⊎ ((result ≡ status.WriteFault) × HasRisen old.faults new.faults × HasWrittenPart old.bytes new.bytes text)
 
 -- the exit code is that of a status with which a call ends so
 abbrev pub IsCodeOf : (Status → Type 0) → ℕ → Type 0

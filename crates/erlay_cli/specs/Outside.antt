@@ -2,16 +2,16 @@
 use Rattle.std.specs.Prelude.{◌≡◌, ℕ, ◌+◌, ◌≤◌, ◌⊎◌, List, length}
 use Rattle.std.specs.Io.KnownBytes.{Consumes, IsAtEnd}
 use Rattle.std.specs.declared.option.Option.{Option}
-use Rattle.erlay_base.specs.Moves.{TakesCount}
-use Rattle.text_rules.specs.Limits.{input_limit}
+use Rattle.erlay_base.specs.Moves.{HasConsumed}
+use Rattle.sketch_text_rules.specs.Limits.{input_limit}
 
 -- a source or a sink: the bytes left or written, where it tells them, and its count of faults
-pub record Seen : Type 0 where
+pub record Observation : Type 0 where
   pub bytes : Option (List ℕ)
   pub faults : ℕ
 
-abbrev pub seen : {S : Type 0} → (S → Option (List ℕ)) → (S → ℕ) → S → Seen
-seen bytes faults s = record { bytes = bytes s; faults = faults s }
+abbrev pub observation_of : {S : Type 0} → (S → Option (List ℕ)) → (S → ℕ) → S → Observation
+observation_of bytes faults s = record { bytes = bytes s; faults = faults s }
 
 -- the bytes are all that there were, within the limit, or one more than the limit; those behind them are left
 abbrev pub IsWholeOrTooLong : List ℕ → Option (List ℕ) → Type 0
@@ -19,9 +19,9 @@ IsWholeOrTooLong input left = (IsAtEnd left × (length input ≤ input_limit)) �
 
 -- what was read is of this kind: all bytes that were left or, where those are more than the limit, one more than the
 -- limit of them; and no read failed
-abbrev pub Reads : Seen → Seen → (List ℕ → Type 0) → Type 0
-Reads old new P = (input : List ℕ) × Consumes old.bytes new.bytes input × IsWholeOrTooLong input new.bytes × (new.faults ≡ old.faults) × P input
+abbrev pub HasRead : Observation → Observation → (List ℕ → Type 0) → Type 0
+HasRead old new P = (input : List ℕ) × Consumes old.bytes new.bytes input × IsWholeOrTooLong input new.bytes × (new.faults ≡ old.faults) × P input
 
 -- at most this many bytes were read
-abbrev pub ReadsAtMost : Seen → Seen → ℕ → Type 0
-ReadsAtMost old new limit = TakesCount old.bytes new.bytes (λ n. n ≤ limit)
+abbrev pub ReadsAtMost : Observation → Observation → ℕ → Type 0
+ReadsAtMost old new limit = HasConsumed old.bytes new.bytes (λ n. n ≤ limit)

@@ -16,5 +16,5 @@ abbrev pub IsFormless : List (List ℕ) → Type 0
 IsFormless words = (c : Command) → HasForm words c → ⊥
 
 -- the words ask for a command of which P holds
-abbrev pub Asks : List (List ℕ) → (Command → Type 0) → Type 0
-Asks words P = (c : Command) × HasForm words c × P c
+abbrev pub HasCommand : List (List ℕ) → (Command → Type 0) → Type 0
+HasCommand words P = (c : Command) × HasForm words c × P c

@@ -1,11 +1,11 @@
 //! The command `decode`.
 
 ghost use Rattle.std.specs.Prelude.{◌≡◌, IfOk, map};
-ghost use Rattle.text_lines.specs.Gives.{Gives};
-ghost use Rattle.text_rules.specs.Elements as elements;
-ghost use Rattle.sketch_core.specs.Answered.{in_numbers};
+ghost use Rattle.line_text.specs.Gives.{IsOutcome};
+ghost use Rattle.sketch_text_rules.specs.Elements as elements;
+ghost use Rattle.sketch_core.specs.Answered.{decoded_numbers};
 ghost use Rattle.erlay_cli.specs.SketchLines.{sketch_in};
-ghost use Rattle.erlay_cli.specs.Answers.{Reports, decoded, found};
+ghost use Rattle.erlay_cli.specs.Answers.{IsReportOf, decode_answer, set_answer};
 
 use crate::faults::fault_report;
 use crate::report::Report;
@@ -13,13 +13,13 @@ use crate::sketch_lines::{line_count, sketch_of};
 use crate::status::Status;
 use base_types::OutOfMemory;
 use field_core::{Field, Gf32};
+use line_text::{ReadStop, TextLines};
 use sketch_core::{Decoded, Sketch};
 use std::alloc::{AllocError, Global};
-use text_lines::{ReadStop, TextLines};
 
 /// Answers the set that has the sketch that the input lists.
 pub fn decode(alloc: Global, input: &[u8]) -> Result<Report, OutOfMemory>
-    ensures { IfOk result (λ report. Reports report (decoded (sketch_in input.now))) }
+    ensures { IfOk result (λ report. IsReportOf report (decode_answer (sketch_in input.now))) }
 {
     match only_sketch(alloc, input) {
         Ok(sketch) => set_report(alloc, &trace_roots::decode(alloc, &sketch)?),
@@ -30,7 +30,7 @@ pub fn decode(alloc: Global, input: &[u8]) -> Result<Report, OutOfMemory>
 
 /// The one sketch that the text lists.
 fn only_sketch(alloc: Global, text: &[u8]) -> Result<Sketch<Gf32>, ReadStop>
-    ensures { Gives (map ⟦<Gf32 as Field>⟧.bits_of) result (sketch_in text.now) }
+    ensures { IsOutcome (map ⟦<Gf32 as Field>⟧.bits_of) result (sketch_in text.now) }
 {
     let mut lines = TextLines::of(text);
     let (Some(only), None) = (lines.next(), lines.next()) else {
@@ -41,7 +41,7 @@ fn only_sketch(alloc: Global, text: &[u8]) -> Result<Sketch<Gf32>, ReadStop>
 
 /// The lines of the set that was found, or that there is none, as an answer.
 fn set_report(alloc: Global, decoded: &Decoded<Gf32>) -> Result<Report, OutOfMemory>
-    ensures { IfOk result (λ report. Reports report (found (in_numbers ⟦<Gf32 as Field>⟧.bits_of decoded.now))) }
+    ensures { IfOk result (λ report. IsReportOf report (set_answer (decoded_numbers ⟦<Gf32 as Field>⟧.bits_of decoded.now))) }
 {
     match decoded {
         Decoded::Found(set) => Ok(Report {

@@ -3,8 +3,8 @@
 ghost use Rattle.std.specs.Prelude.{◌≡◌, ◌++◌, IfOk, codes};
 ghost use Rattle.std.specs.String.{string_bytes};
 ghost use Rattle.hex.specs.Hex.{encode_lower};
-ghost use Rattle.text_rules.specs.Faults.{kind_text};
-ghost use Rattle.erlay_cli.specs.Answers.{Reports, faulty};
+ghost use Rattle.sketch_text_rules.specs.Faults.{kind_text};
+ghost use Rattle.erlay_cli.specs.Answers.{IsReportOf, fault_answer};
 
 use crate::report::Report;
 use crate::status::Status;
@@ -21,7 +21,7 @@ fn ids_text(alloc: Global, stands: &Hash32, computed: &Hash32) -> Result<String,
 }
 
 /// What is wrong, in words.
-#[tactic(auto, unfolding(text_rules::specs::Faults::kind_text))]
+#[tactic(auto, unfolding(sketch_text_rules::specs::Faults::kind_text))]
 fn text_of(alloc: Global, kind: &Kind) -> Result<String, AllocError>
     ensures { IfOk result (λ text. string_bytes text ≡ kind_text kind.now) }
 {
@@ -45,7 +45,7 @@ fn text_of(alloc: Global, kind: &Kind) -> Result<String, AllocError>
 
 /// The answer to an input with a fault.
 pub fn fault_report(alloc: Global, fault: &TextFault) -> Result<Report, OutOfMemory>
-    ensures { IfOk result (λ report. Reports report (faulty fault.now)) }
+    ensures { IfOk result (λ report. IsReportOf report (fault_answer fault.now)) }
 {
     let place = fault.place;
     let kind = text_of(alloc, &fault.kind)?;

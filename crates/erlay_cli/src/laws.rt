@@ -3,9 +3,9 @@
 ghost use Rattle.std.specs.Prelude.{◌≡◌, ℕ, ◌≤◌, List, ◌++◌, length};
 ghost use Rattle.line_rules.specs.Lines.{line};
 ghost use Rattle.sketch_rules.specs.Sets.{difference};
-ghost use Rattle.sketch_rules.specs.Sketches.{IsCapacity, digits_of, merged, sketch_of};
-ghost use Rattle.text_rules.specs.Elements.{IsSet, set_text};
-ghost use Rattle.text_rules.specs.Limits.{input_limit};
+ghost use Rattle.sketch_rules.specs.Sketches.{IsCapacity, digits_of, sketch_sum, sketch_of};
+ghost use Rattle.sketch_text_rules.specs.Elements.{IsSet, set_text};
+ghost use Rattle.sketch_text_rules.specs.Limits.{input_limit};
 ghost use Rattle.erlay_cli.specs.Answers.{answer_to};
 
 use crate::command::Command;
@@ -16,7 +16,7 @@ use crate::status::Status;
 /// `merge` answers to what `make` answers to these. It does nothing when it runs: its contract is the theorem.
 pub fn differences_are_decoded()
     ensures sum { (xs ys : List ℕ) (c : ℕ) → IsSet xs → IsSet ys → IsCapacity c → length (difference xs ys) ≤ c
-        → answer_to Command.Decode (line (digits_of (merged (sketch_of xs c) (sketch_of ys c)))) ≡ record { status = Status.Ok; text = set_text (difference xs ys) } }
+        → answer_to Command.Decode (line (digits_of (sketch_sum (sketch_of xs c) (sketch_of ys c)))) ≡ record { status = Status.Ok; text = set_text (difference xs ys) } }
     ensures texts { (xs ys : List ℕ) (c : ℕ) → IsSet xs → IsSet ys → IsCapacity c → length (difference xs ys) ≤ c
         → length (set_text xs) ≤ input_limit → length (set_text ys) ≤ input_limit
         → let sketches = (answer_to (Command.Make c) (set_text xs)).text ++ (answer_to (Command.Make c) (set_text ys)).text in

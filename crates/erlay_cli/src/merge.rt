@@ -1,23 +1,23 @@
 //! The command `merge`.
 
 ghost use Rattle.std.specs.Prelude.{[], ◌∷◌, IfOk, map};
-ghost use Rattle.text_lines.specs.Views.{line_of};
-ghost use Rattle.text_lines.specs.Gives.{Gives};
+ghost use Rattle.line_text.specs.Views.{line_of};
+ghost use Rattle.line_text.specs.Gives.{IsOutcome};
 ghost use Rattle.erlay_cli.specs.SketchLines.{sum_in, sum_of_lines};
-ghost use Rattle.erlay_cli.specs.Answers.{Reports, summed};
+ghost use Rattle.erlay_cli.specs.Answers.{IsReportOf, merge_answer};
 
 use crate::faults::fault_report;
 use crate::report::{Report, sketch_report};
 use crate::sketch_lines::{line_count, sketch_of};
 use base_types::{Kind, OutOfMemory, TextFault};
 use field_core::{Field, Gf32};
+use line_text::{ReadStop, TextLine, TextLines};
 use sketch_core::Sketch;
 use std::alloc::Global;
-use text_lines::{ReadStop, TextLine, TextLines};
 
 /// Answers the line of the sum of the two sketches that the input lists.
 pub fn merge(alloc: Global, input: &[u8]) -> Result<Report, OutOfMemory>
-    ensures { IfOk result (λ report. Reports report (summed (sum_in input.now))) }
+    ensures { IfOk result (λ report. IsReportOf report (merge_answer (sum_in input.now))) }
 {
     match sum_of(alloc, input) {
         Ok(sum) => sketch_report(alloc, &sum),
@@ -28,7 +28,7 @@ pub fn merge(alloc: Global, input: &[u8]) -> Result<Report, OutOfMemory>
 
 /// The sum of the two sketches that the text lists.
 fn sum_of(alloc: Global, text: &[u8]) -> Result<Sketch<Gf32>, ReadStop>
-    ensures { Gives (map ⟦<Gf32 as Field>⟧.bits_of) result (sum_in text.now) }
+    ensures { IsOutcome (map ⟦<Gf32 as Field>⟧.bits_of) result (sum_in text.now) }
 {
     let mut lines = TextLines::of(text);
     let (Some(first), Some(second), None) = (lines.next(), lines.next(), lines.next()) else {
@@ -39,7 +39,7 @@ fn sum_of(alloc: Global, text: &[u8]) -> Result<Sketch<Gf32>, ReadStop>
 
 /// The sum of the sketches of two lines.
 fn sum_of_two(alloc: Global, first: &TextLine, second: &TextLine) -> Result<Sketch<Gf32>, ReadStop>
-    ensures { Gives (map ⟦<Gf32 as Field>⟧.bits_of) result (sum_of_lines (line_of first.now ∷ line_of second.now ∷ [])) }
+    ensures { IsOutcome (map ⟦<Gf32 as Field>⟧.bits_of) result (sum_of_lines (line_of first.now ∷ line_of second.now ∷ [])) }
 {
     let mut sum = sketch_of(alloc, first)?;
     let other = sketch_of(alloc, second)?;

@@ -4,9 +4,9 @@ ghost use Rattle.std.specs.Prelude.{◌≡◌, ◌≢◌, [], IfOk, IfErr, drop,
 ghost use Rattle.std.specs.String.{string_bytes};
 ghost use Rattle.std.specs.IoError.{error_kind};
 ghost use Rattle.line_rules.specs.Lines.{line};
-ghost use Rattle.text_rules.specs.Faults.{out_of_memory};
-ghost use Rattle.erlay_cli.specs.Outside.{seen};
-ghost use Rattle.erlay_cli.specs.Ends.{Ends, Finishes, IsAnswer, IsCodeOf};
+ghost use Rattle.sketch_text_rules.specs.Faults.{out_of_memory_text};
+ghost use Rattle.erlay_cli.specs.Outside.{observation_of};
+ghost use Rattle.erlay_cli.specs.Ends.{IsEnding, IsWritten, IsAnswer, IsCodeOf};
 
 use crate::status::Status;
 use crate::top::{run, stopped};
@@ -23,14 +23,14 @@ pub fn exit_code<I: Source, O: Sink>(
     input: &mut I,
     output: &mut O,
 ) -> u8
-    ensures ok { IfOk arguments (λ list. IsCodeOf (Ends
-        (IsAnswer (map string_bytes (drop 1 list.items)) (seen I.left I.faults input.old) (seen I.left I.faults input.new))
-        (seen O.written O.faults output.old) (seen O.written O.faults output.new)) result) }
-    ensures no_text { IfErr arguments (λ error. error_kind error ≢ ErrorKind.OutOfMemory → IsCodeOf (Ends
-        (IsAnswer [] (seen I.left I.faults input.old) (seen I.left I.faults input.new))
-        (seen O.written O.faults output.old) (seen O.written O.faults output.new)) result) }
+    ensures ok { IfOk arguments (λ list. IsCodeOf (IsEnding
+        (IsAnswer (map string_bytes (drop 1 list.items)) (observation_of I.left I.faults input.old) (observation_of I.left I.faults input.new))
+        (observation_of O.written O.faults output.old) (observation_of O.written O.faults output.new)) result) }
+    ensures no_text { IfErr arguments (λ error. error_kind error ≢ ErrorKind.OutOfMemory → IsCodeOf (IsEnding
+        (IsAnswer [] (observation_of I.left I.faults input.old) (observation_of I.left I.faults input.new))
+        (observation_of O.written O.faults output.old) (observation_of O.written O.faults output.new)) result) }
     ensures no_memory { IfErr arguments (λ error. error_kind error ≡ ErrorKind.OutOfMemory → IsCodeOf
-        (Finishes Status.OutOfMemory (line out_of_memory) (seen O.written O.faults output.old) (seen O.written O.faults output.new)) result) }
+        (IsWritten Status.OutOfMemory (line out_of_memory_text) (observation_of O.written O.faults output.old) (observation_of O.written O.faults output.new)) result) }
 {
     match arguments {
         Ok(arguments) => run(alloc, words_of(arguments.as_slice()), input, output).code(),

@@ -2,8 +2,8 @@
 
 ghost use Rattle.std.specs.Prelude.{ℕ, List, ◌≡◌, IfOk, map};
 ghost use Rattle.line_rules.specs.Lines.{line};
-ghost use Rattle.text_rules.specs.Faults.{read_fault, out_of_memory};
-ghost use Rattle.erlay_cli.specs.Answers.{Reports, sketched};
+ghost use Rattle.sketch_text_rules.specs.Faults.{read_fault_text, out_of_memory_text};
+ghost use Rattle.erlay_cli.specs.Answers.{IsReportOf, sketch_answer};
 ghost use Rattle.erlay_cli.specs.Stops.{text_of, status_of};
 
 use crate::status::Status;
@@ -11,8 +11,8 @@ use base_types::OutOfMemory;
 use field_core::{Field, Gf32};
 use sketch_bytes::to_line;
 use sketch_core::Sketch;
+use sketch_text_rules::INPUT_LIMIT;
 use std::alloc::Global;
-use text_rules::INPUT_LIMIT;
 
 /// The text of a command's answer, and its status.
 #[derive(Drop)]
@@ -23,7 +23,7 @@ pub struct Report {
 
 /// The line of a sketch, as an answer.
 pub fn sketch_report(alloc: Global, sketch: &Sketch<Gf32>) -> Result<Report, OutOfMemory>
-    ensures { IfOk result (λ report. Reports report (sketched (map ⟦<Gf32 as Field>⟧.bits_of sketch.now))) }
+    ensures { IfOk result (λ report. IsReportOf report (sketch_answer (map ⟦<Gf32 as Field>⟧.bits_of sketch.now))) }
 {
     let digits = to_line(alloc, sketch)?;
     let mut text = digits.as_slice().to_vec(alloc)?;

@@ -3,22 +3,22 @@
 ghost use Rattle.std.specs.Prelude.{◌≡◌, length, map};
 ghost use Rattle.base_types.specs.declared.text.Kind.TheVariants.{LineCount};
 ghost use Rattle.line_rules.specs.Lines.{lines_of};
-ghost use Rattle.line_rules.specs.Reading.{behind};
-ghost use Rattle.text_lines.specs.Views.{line_of};
-ghost use Rattle.text_lines.specs.Gives.{Gives};
+ghost use Rattle.line_rules.specs.Reading.{after_line};
+ghost use Rattle.line_text.specs.Views.{line_of};
+ghost use Rattle.line_text.specs.Gives.{IsOutcome};
 ghost use Rattle.erlay_cli.specs.SketchLines.{sketch_of_line};
 ghost use Rattle.erlay_cli.specs.SketchLines as spec;
 
 use base_types::{Kind, TextFault};
 use field_core::{Field, Gf32};
+use line_text::{ReadStop, TextLine, count};
 use sketch_bytes::{BytesFault, LineFault, from_line};
 use sketch_core::Sketch;
 use std::alloc::Global;
-use text_lines::{ReadStop, TextLine, count};
 
 /// The sketch of a line.
 pub fn sketch_of(alloc: Global, line: &TextLine) -> Result<Sketch<Gf32>, ReadStop>
-    ensures { Gives (map ⟦<Gf32 as Field>⟧.bits_of) result (behind (line_of line.now) (sketch_of_line line.now.bytes.now) (λ sums. Ok sums)) }
+    ensures { IsOutcome (map ⟦<Gf32 as Field>⟧.bits_of) result (after_line (line_of line.now) (sketch_of_line line.now.bytes.now) (λ sums. Ok sums)) }
 {
     match from_line(alloc, line.bytes) {
         Ok(sketch) => Ok(sketch),

@@ -2,13 +2,13 @@
 
 ghost use Rattle.std.specs.Prelude.{◌≡◌, ◌≢◌, ◌⊎◌, ◌≤◌, ℕ, List, IfOk, IfErr, Some, map};
 ghost use Rattle.std.specs.String.{string_bytes};
-ghost use Rattle.erlay_base.specs.Causes.{Rose};
+ghost use Rattle.erlay_base.specs.Causes.{HasRisen};
 ghost use Rattle.line_rules.specs.Lines.{line};
-ghost use Rattle.text_rules.specs.Faults.{out_of_memory};
+ghost use Rattle.sketch_text_rules.specs.Faults.{out_of_memory_text};
 ghost use Rattle.erlay_cli.specs.Words.{HasForm, IsFormless};
-ghost use Rattle.erlay_cli.specs.Outside.{seen};
-ghost use Rattle.erlay_cli.specs.Answers.{Reports, answer_to, work_of};
-ghost use Rattle.erlay_cli.specs.Ends.{Ends, Finishes, IsAnswer, IsAnswerTo, IsSound};
+ghost use Rattle.erlay_cli.specs.Outside.{observation_of};
+ghost use Rattle.erlay_cli.specs.Answers.{IsReportOf, answer_to, answer_within_limit};
+ghost use Rattle.erlay_cli.specs.Ends.{IsEnding, IsWritten, IsAnswer, IsAnswerTo, IsSound};
 ghost use Rattle.erlay_cli.specs.Stops.{status_of, text_of};
 ghost use Rattle.erlay_cli.specs.declared.command.Command.{Command};
 
@@ -19,8 +19,8 @@ use crate::merge::merge;
 use crate::report::{Report, Stop};
 use crate::status::Status;
 use erlay_base::{ReadEnd, Sink, Source, read_all, write_all};
+use sketch_text_rules::INPUT_LIMIT;
 use std::alloc::Global;
-use text_rules::INPUT_LIMIT;
 
 /// Does what the words of the command line ask for, reads the input if the command reads it, and writes one text.
 pub fn run<I: Source, O: Sink>(
@@ -29,13 +29,13 @@ pub fn run<I: Source, O: Sink>(
     input: &mut I,
     output: &mut O,
 ) -> Status
-    ensures ends { Ends
-        (IsAnswer (map string_bytes words.now) (seen I.left I.faults input.old) (seen I.left I.faults input.new))
-        (seen O.written O.faults output.old) (seen O.written O.faults output.new) result }
+    ensures ends { IsEnding
+        (IsAnswer (map string_bytes words.now) (observation_of I.left I.faults input.old) (observation_of I.left I.faults input.new))
+        (observation_of O.written O.faults output.old) (observation_of O.written O.faults output.new) result }
 
     // Where the input tells its bytes, they alone lead to the text and the status.
     ensures told { (c : Command) (text : List ℕ) → HasForm (map string_bytes words.now) c → I.left input.old ≡ Some text
-        → Ends (IsAnswerTo c text) (seen O.written O.faults output.old) (seen O.written O.faults output.new) result }
+        → IsEnding (IsAnswerTo c text) (observation_of O.written O.faults output.old) (observation_of O.written O.faults output.new) result }
 
     // Usage comes exactly where the words have no form; then the input is as it was.
     ensures usage { result ≡ Status.Usage → IsFormless (map string_bytes words.now) }
@@ -43,15 +43,15 @@ pub fn run<I: Source, O: Sink>(
     ensures untouched { IsFormless (map string_bytes words.now) → input.new ≡ input.old }
 
     // A fault of the outside comes exactly where its count rose, and no count falls. A failed write hides a failed read.
-    ensures read_fault { result ≡ Status.ReadFault → Rose (I.faults input.old) (I.faults input.new) }
+    ensures read_fault { result ≡ Status.ReadFault → HasRisen (I.faults input.old) (I.faults input.new) }
     ensures no_read_fault { result ≢ Status.ReadFault → result ≢ Status.WriteFault → I.faults input.new ≡ I.faults input.old }
-    ensures write_fault { result ≡ Status.WriteFault → Rose (O.faults output.old) (O.faults output.new) }
+    ensures write_fault { result ≡ Status.WriteFault → HasRisen (O.faults output.old) (O.faults output.new) }
     ensures no_write_fault { result ≢ Status.WriteFault → O.faults output.new ≡ O.faults output.old }
     ensures later { (I.faults input.old ≤ I.faults input.new) × (O.faults output.old ≤ O.faults output.new) }
 
     // With a sound input and no fault of the outside, nothing but want of memory keeps the command from its work.
     ensures complete { (c : Command) (text : List ℕ) → HasForm (map string_bytes words.now) c → I.left input.old ≡ Some text → IsSound c text
-        → ¬ Rose (I.faults input.old) (I.faults input.new) → ¬ Rose (O.faults output.old) (O.faults output.new)
+        → ¬ HasRisen (I.faults input.old) (I.faults input.new) → ¬ HasRisen (O.faults output.old) (O.faults output.new)
         → (result ≡ (answer_to c text).status) ⊎ (result ≡ Status.OutOfMemory) }
 {
     match answer(alloc, words, input) {
@@ -62,7 +62,7 @@ pub fn run<I: Source, O: Sink>(
 
 /// Ends a run whose words could not be taken in for want of memory.
 pub fn stopped<O: Sink>(output: &mut O) -> Status
-    ensures finishes { Finishes Status.OutOfMemory (line out_of_memory) (seen O.written O.faults output.old) (seen O.written O.faults output.new) result }
+    ensures finishes { IsWritten Status.OutOfMemory (line out_of_memory_text) (observation_of O.written O.faults output.old) (observation_of O.written O.faults output.new) result }
     ensures later { O.faults output.old ≤ O.faults output.new }
 {
     finish(output, Stop::OutOfMemory.status(), Stop::OutOfMemory.text())
@@ -70,8 +70,8 @@ pub fn stopped<O: Sink>(output: &mut O) -> Status
 
 /// The answer to the words, before it is written.
 fn answer<I: Source>(alloc: Global, words: &[String], input: &mut I) -> Result<Report, Stop>
-    ensures ok { IfOk result (λ report. IsAnswer (map string_bytes words.now) (seen I.left I.faults input.old) (seen I.left I.faults input.new) report.status report.text.items) }
-    ensures err { IfErr result (λ stop. IsAnswer (map string_bytes words.now) (seen I.left I.faults input.old) (seen I.left I.faults input.new) (status_of stop) (text_of stop)) }
+    ensures ok { IfOk result (λ report. IsAnswer (map string_bytes words.now) (observation_of I.left I.faults input.old) (observation_of I.left I.faults input.new) report.status report.text.items) }
+    ensures err { IfErr result (λ stop. IsAnswer (map string_bytes words.now) (observation_of I.left I.faults input.old) (observation_of I.left I.faults input.new) (status_of stop) (text_of stop)) }
     ensures untouched { IsFormless (map string_bytes words.now) → input.new ≡ input.old }
     ensures later { I.faults input.old ≤ I.faults input.new }
 {
@@ -89,7 +89,7 @@ fn answer<I: Source>(alloc: Global, words: &[String], input: &mut I) -> Result<R
 /// Does the command's work on an input within the limit.
 fn work(alloc: Global, command: Command, input: &[u8]) -> Result<Report, Stop>
     requires { (words : List (List ℕ)) × HasForm words command }
-    ensures ok { IfOk result (λ report. Reports report (work_of command input.now)) }
+    ensures ok { IfOk result (λ report. IsReportOf report (answer_within_limit command input.now)) }
     ensures err { IfErr result (λ stop. stop ≡ Stop.OutOfMemory) }
 {
     let answered = match command {
@@ -102,7 +102,7 @@ fn work(alloc: Global, command: Command, input: &[u8]) -> Result<Report, Stop>
 
 /// Writes the text. The status is `end`, unless a write fails.
 fn finish<O: Sink>(output: &mut O, end: Status, text: &[u8]) -> Status
-    ensures finishes { Finishes end text.now (seen O.written O.faults output.old) (seen O.written O.faults output.new) result }
+    ensures finishes { IsWritten end text.now (observation_of O.written O.faults output.old) (observation_of O.written O.faults output.new) result }
     ensures no_write_fault { result ≢ Status.WriteFault → O.faults output.new ≡ O.faults output.old }
     ensures later { O.faults output.old ≤ O.faults output.new }
 {

@@ -14,7 +14,7 @@ use Rattle.field_core.specs.Gf32.{ops as operations, bits_of, same_bits}
 pub multiple_of_bits : (factor : ℕ) (k a r : Gf32) → bits_of k ≡ factor → bits_of r ≡ product 32 factor (bits_of a) → r ≡ operations.times k a
 multiple_of_bits factor k a r is e = same_bits r (operations.times k a) (e ∙ ap (λ z. product 32 z (bits_of a)) (sym is))
 
--- the product at a place
+-- the product at an index
 pub product_at : (factor : ℕ) (xs : List Gf32) (i : ℕ) (a : Gf32) → i < length xs → get_or (map (λ w. product 32 factor w) (map bits_of xs)) i 0 ≡ product 32 factor (bits_of (get_or xs i a))
 product_at factor xs i a lt =
     get_or-map (λ w. product 32 factor w) (map bits_of xs) i 0 0 (omega (arith, length-map xs bits_of))
@@ -33,7 +33,7 @@ module _ {A : Type 0} (ops : Ops A) (k : A) where
   with_multiple-none [] = refl
   with_multiple-none (a ∷ acc) = refl
 
-  -- the first n places, and the rest
+  -- the first n items, and the rest
   with_multiple-split : (n : ℕ) (acc xs : List A) → with_multiple ops acc k xs ≡ with_multiple ops (take n acc) k (take n xs) ++ with_multiple ops (drop n acc) k (drop n xs)
   unfolding with_multiple
   with_multiple-split zero acc xs = refl
@@ -42,7 +42,7 @@ module _ {A : Type 0} (ops : Ops A) (k : A) where
       ap (λ z. a ∷ z) (sym (take-append-drop n acc) ∙ ap (λ z. take n acc ++ z) (sym (with_multiple-none (drop n acc))))
   with_multiple-split (suc n) (a ∷ acc) (x ∷ xs) = ap (λ rest. ops.plus a (ops.times k x) ∷ rest) (with_multiple-split n acc xs)
 
-  -- w places from m on are done, and the rest are still to come
+  -- w items from m on are done, and the rest are still to come
   pub block_added : (m w : ℕ) (acc xs part : List A) → m + w ≤ length acc → part ≡ with_multiple ops (mid_of m w acc) k (take w (drop m xs))
       → take (m + w) (put_mid m w acc part) ++ with_multiple ops (drop (m + w) (put_mid m w acc part)) k (drop (m + w) xs) ≡ take m acc ++ with_multiple ops (drop m acc) k (drop m xs)
   block_added m w acc xs part fits is =
@@ -60,7 +60,7 @@ module _ {A : Type 0} (ops : Ops A) (k : A) where
       later : drop (m + w) (put_mid m w acc part) ≡ drop (m + w) acc
       later = drop-put_mid m w acc part (m + w) (omega arith) (omega arith) size
 
-  -- and no place is left
+  -- and no item is left
   pub rest_added : (m w v : ℕ) (acc xs part : List A) → length acc ≤ m + w → length xs ≤ m + v → part ≡ with_multiple ops (mid_of m w acc) k (take v (drop m xs))
       → put_mid m w acc part ≡ take m acc ++ with_multiple ops (drop m acc) k (drop m xs)
   rest_added m w v acc xs part end_acc end_xs is =

@@ -24,7 +24,7 @@ each_map P f each (x ∷ xs) = (each x, each_map P f each xs)
 
 -- ---- masks and shifts
 
--- the lower n places of each
+-- the lower n bits of each
 masked_are : (xs : List ℕ) → length xs ≡ 16 → (n : ℕ) → zip2 bit_and xs (replicate 16 (2 ^ n - 1)) ≡ map (λ x. x % 2 ^ n) xs
 masked_are xs long n =
     zip2_splat bit_and xs 16 (2 ^ n - 1) long ∙ map_alike (λ x. bit_and x (2 ^ n - 1)) (λ x. x % 2 ^ n) (λ x. and_mask x n) xs
@@ -38,7 +38,7 @@ module _ (xs : List ℕ) (long : length xs ≡ 16) where
   pub halves_are : zip2 (λ x y. x / 2 ^ y) xs (replicate 16 4) ≡ map (λ x. x / 16) xs
   halves_are = shifted_are 4
 
-  -- the bytes at a place, as words
+  -- the bytes at an index, as words
   low_bytes_are : (s : ℕ) → zip2 bit_and (zip2 (λ x y. x / 2 ^ y) xs (replicate 16 s)) (replicate 16 255) ≡ map (λ x. x / 2 ^ s % 256) xs
   low_bytes_are s =
       ap (λ z. zip2 bit_and z (replicate 16 255)) (shifted_are s)
@@ -50,7 +50,7 @@ module _ (xs : List ℕ) (long : length xs ≡ 16) where
   low_bytes_fit s =
       subst (Each1 (Fits w8)) (sym (low_bytes_are s)) (each_map (Fits w8) (λ x. x / 2 ^ s % 256) (λ x. record { fits = mod-lt (x / 2 ^ s) (lit< tt) }) xs)
 
-  -- the bytes at a place
+  -- the bytes at an index
   pub bytes_are : (s : ℕ) → map (λ x. x) (zip2 bit_and (zip2 (λ x y. x / 2 ^ y) xs (replicate 16 s)) (replicate 16 255)) ≡ map (λ x. x / 2 ^ s % 256) xs
   bytes_are s = ap (map (λ x. x)) (low_bytes_are s) ∙ map-map (λ x. x) (λ x. x / 2 ^ s % 256) xs
 
@@ -67,9 +67,9 @@ module _ (xs : List ℕ) (long : length xs ≡ 16) where
 
 -- ---- tables
 
--- sixteen places below sixteen
-places_are : (table js : List ℕ) → length js ≡ 16 → Each1 (λ j. j < 16) js → swz_l w8 16 table 0 js ≡ map (λ j. get_or table j 0) js
-places_are table js long below =
+-- sixteen indices below sixteen
+indexed_are : (table js : List ℕ) → length js ≡ 16 → Each1 (λ j. j < 16) js → swz_l w8 16 table 0 js ≡ map (λ j. get_or table j 0) js
+indexed_are table js long below =
     ext_get_or 0 (swz_l w8 16 table 0 js) (map (λ j. get_or table j 0) js) (length-swz_l w8 16 table 0 js ∙ sym (length-map js (λ j. get_or table j 0)))
     (λ m lt.
     let inside : m < length js = omega (arith, length-swz_l w8 16 table 0 js) in
@@ -85,7 +85,7 @@ module _ (xs : List ℕ) (long : length xs ≡ 16) where
   lower_below : Each1 (λ j. j < 16) (map (λ x. x % 16) xs)
   lower_below = each_map (λ j. j < 16) (λ x. x % 16) (λ x. mod-lt x (lit< tt)) xs
 
-  -- the lower half of each byte is a place of a table
+  -- the lower half of each byte is an index of a table
   pub look_ups_ok : SwzOk w8 16 16 0 (zip2 bit_and xs (replicate 16 15))
   look_ups_ok =
       subst (SwzOk w8 16 16 0) (sym (masked_are xs long 4))
@@ -95,5 +95,5 @@ module _ (xs : List ℕ) (long : length xs ≡ 16) where
   pub look_ups_are : (table : List ℕ) → swz_l w8 16 table 0 (zip2 bit_and xs (replicate 16 15)) ≡ map (λ x. get_or table (x % 16) 0) xs
   look_ups_are table =
       ap (swz_l w8 16 table 0) (masked_are xs long 4)
-      ∙ places_are table (map (λ x. x % 16) xs) lower_long lower_below
+      ∙ indexed_are table (map (λ x. x % 16) xs) lower_long lower_below
       ∙ map-map (λ j. get_or table j 0) (λ x. x % 16) xs

@@ -20,21 +20,21 @@ byte_xor p a b = ap (λ z. z % 256) (xor_shr a b (8 * p)) ∙ xor_mod (a / 2 ^ (
 
 -- the lower half of byte p is nibble 2 p
 pub lower_nibble : (w p : ℕ) → w / 2 ^ (8 * p) % 256 % 16 ≡ w / 2 ^ (4 * (2 * p)) % 16
-lower_nibble w p = let place : 8 * p ≡ 4 * (2 * p) = omega arith in
-    low (w / 2 ^ (8 * p)) ∙ ap (λ k. w / 2 ^ k % 16) place
+lower_nibble w p = let index : 8 * p ≡ 4 * (2 * p) = omega arith in
+    low (w / 2 ^ (8 * p)) ∙ ap (λ k. w / 2 ^ k % 16) index
   where
     low : (x : ℕ) → x % 256 % 16 ≡ x % 16
     low x = omega arith
 
 -- the upper half is nibble 2 p + 1
 pub upper_nibble : (w p : ℕ) → w / 2 ^ (8 * p) % 256 / 16 % 16 ≡ w / 2 ^ (4 * (2 * p + 1)) % 16
-upper_nibble w p = let place : 8 * p + 4 ≡ 4 * (2 * p + 1) = omega arith in
-    high (w / 2 ^ (8 * p)) ∙ ap (λ z. z % 16) (shr-shr w (8 * p) 4 ∙ ap (λ k. w / 2 ^ k) place)
+upper_nibble w p = let index : 8 * p + 4 ≡ 4 * (2 * p + 1) = omega arith in
+    high (w / 2 ^ (8 * p)) ∙ ap (λ z. z % 16) (shr-shr w (8 * p) 4 ∙ ap (λ k. w / 2 ^ k) index)
   where
     high : (x : ℕ) → x % 256 / 16 % 16 ≡ x / 16 % 16
     high x = omega arith
 
--- a number's bytes below n, each at its place
+-- a number's bytes below n, each at its index
 abbrev by_bytes : ℕ → ℕ → ℕ
 by_bytes q zero = 0
 by_bytes q (suc n) = bit_xor (by_bytes q n) (q / 2 ^ (8 * n) % 256 * 2 ^ (8 * n))
@@ -69,7 +69,7 @@ byte_table_is factor i b table bytes are is j lt =
 -- one table more is done
 one_more : (factor n i b : ℕ) (tables : List (List ℕ)) (table : List ℕ) → n ≡ 4 * i + b → b < 4 → n < length tables → ((k : ℕ) → k < n → IsByteTable factor (k / 4) (k % 4) (slice_index_or tables k []))
     → IsByteTable factor i b table → (k : ℕ) → k < n + 1 → IsByteTable factor (k / 4) (k % 4) (slice_index_or (slice_set tables n table) k [])
-one_more factor n i b tables table place small inside before here =
+one_more factor n i b tables table index small inside before here =
     below_more (λ k. IsByteTable factor (k / 4) (k % 4) (slice_index_or (slice_set tables n table) k [])) n
     (λ k below. let other : k ≢ n = omega arith in subst (IsByteTable factor (k / 4) (k % 4)) (sym (get_or-set_other tables n k table [] other)) (before k below))
     (let nibble : i ≡ n / 4 = omega arith in
@@ -121,51 +121,51 @@ byte_tables_are factor tables done i lt b small =
     subst (λ k. IsByteTable factor k b (slice_index_or tables (4 * i + b) [])) nibble
     (subst (λ k. IsByteTable factor ((4 * i + b) / 4) k (slice_index_or tables (4 * i + b) [])) byte (done (4 * i + b) (omega arith)))
 
--- ---- the byte at a place of a product
+-- ---- the byte at an index of a product
 
-module _ (tables : List (List ℕ)) (place : ℕ) where
+module _ (tables : List (List ℕ)) (index : ℕ) where
   -- what the table of nibble i has at nibble i of a word
   abbrev pub look : ℕ → ℕ → ℕ
-  look i w = slice_index (slice_index_or tables (4 * i + place) []) (w / 2 ^ (4 * i) % 16)
+  look i w = slice_index (slice_index_or tables (4 * i + index) []) (w / 2 ^ (4 * i) % 16)
 
   -- all eight
   abbrev pub eight_looks : ℕ → ℕ
   eight_looks w =
       bit_xor (bit_xor (bit_xor (look 0 w) (look 1 w)) (bit_xor (look 2 w) (look 3 w))) (bit_xor (bit_xor (look 4 w) (look 5 w)) (bit_xor (look 6 w) (look 7 w)))
 
-module _ (factor : ℕ) (fits : factor < 2 ^ 32) (tables : List (List ℕ)) (are : AreByteTables factor tables) (place : ℕ) (small : place < 4) where
+module _ (factor : ℕ) (fits : factor < 2 ^ 32) (tables : List (List ℕ)) (are : AreByteTables factor tables) (index : ℕ) (small : index < 4) where
   abbrev byte_of : ℕ → ℕ
-  byte_of a = a / 2 ^ (8 * place) % 256
+  byte_of a = a / 2 ^ (8 * index) % 256
 
   -- a look finds the byte of the multiple by the nibble
-  look_is : (w i : ℕ) → i < 8 → look tables place i w ≡ byte_of (product 32 factor (w / 2 ^ (4 * i) % 16 * 2 ^ (4 * i)))
-  look_is w i lt = are i lt place small (w / 2 ^ (4 * i) % 16) (mod-lt (w / 2 ^ (4 * i)) (lit< tt))
+  look_is : (w i : ℕ) → i < 8 → look tables index i w ≡ byte_of (product 32 factor (w / 2 ^ (4 * i) % 16 * 2 ^ (4 * i)))
+  look_is w i lt = are i lt index small (w / 2 ^ (4 * i) % 16) (mod-lt (w / 2 ^ (4 * i)) (lit< tt))
 
   -- the byte of the exclusive or of eight
   byte_of_eight : (a0 a1 a2 a3 a4 a5 a6 a7 : ℕ)
       → bit_xor (bit_xor (bit_xor (byte_of a0) (byte_of a1)) (bit_xor (byte_of a2) (byte_of a3))) (bit_xor (bit_xor (byte_of a4) (byte_of a5)) (bit_xor (byte_of a6) (byte_of a7)))
       ≡ byte_of (bit_xor (bit_xor (bit_xor a0 a1) (bit_xor a2 a3)) (bit_xor (bit_xor a4 a5) (bit_xor a6 a7)))
-  byte_of_eight a0 a1 a2 a3 a4 a5 a6 a7 = simp (byte_xor place)
+  byte_of_eight a0 a1 a2 a3 a4 a5 a6 a7 = simp (byte_xor index)
 
   -- eight of them are the byte of the product
-  looks_give : (w : ℕ) → Fits w32 w → eight_looks tables place w ≡ byte_of (product 32 factor w)
+  looks_give : (w : ℕ) → Fits w32 w → eight_looks tables index w ≡ byte_of (product 32 factor w)
   looks_give w small_word =
       rw (look_is w 0 (lit< tt), look_is w 1 (lit< tt), look_is w 2 (lit< tt), look_is w 3 (lit< tt), look_is w 4 (lit< tt), look_is w 5 (lit< tt), look_is w 6 (lit< tt), look_is w 7 (lit< tt))
       (byte_of_eight _ _ _ _ _ _ _ _ ∙ ap byte_of (words_give factor w fits small_word.fits _ _ _ _ _ _ _ _ refl refl refl refl refl refl refl refl))
 
   -- lane by lane
   pub bytes_by_looks : (ws r0 r1 r2 r3 r4 r5 r6 r7 : List ℕ) → Each1 (Fits w32) ws
-      → r0 ≡ map (look tables place 0) ws → r1 ≡ map (look tables place 1) ws → r2 ≡ map (look tables place 2) ws → r3 ≡ map (look tables place 3) ws
-      → r4 ≡ map (look tables place 4) ws → r5 ≡ map (look tables place 5) ws → r6 ≡ map (look tables place 6) ws → r7 ≡ map (look tables place 7) ws
+      → r0 ≡ map (look tables index 0) ws → r1 ≡ map (look tables index 1) ws → r2 ≡ map (look tables index 2) ws → r3 ≡ map (look tables index 3) ws
+      → r4 ≡ map (look tables index 4) ws → r5 ≡ map (look tables index 5) ws → r6 ≡ map (look tables index 6) ws → r7 ≡ map (look tables index 7) ws
       → zip2 bit_xor (zip2 bit_xor (zip2 bit_xor r0 r1) (zip2 bit_xor r2 r3)) (zip2 bit_xor (zip2 bit_xor r4 r5) (zip2 bit_xor r6 r7)) ≡ map (λ w. byte_of (product 32 factor w)) ws
   bytes_by_looks ws r0 r1 r2 r3 r4 r5 r6 r7 each e0 e1 e2 e3 e4 e5 e6 e7 =
       zip2_of_maps bit_xor (λ w. bit_xor (bit_xor (l 0 w) (l 1 w)) (bit_xor (l 2 w) (l 3 w))) (λ w. bit_xor (bit_xor (l 4 w) (l 5 w)) (bit_xor (l 6 w) (l 7 w))) ws
       (zip2_of_maps bit_xor (λ w. bit_xor (l 0 w) (l 1 w)) (λ w. bit_xor (l 2 w) (l 3 w)) ws (zip2_of_maps bit_xor (l 0) (l 1) ws e0 e1) (zip2_of_maps bit_xor (l 2) (l 3) ws e2 e3))
       (zip2_of_maps bit_xor (λ w. bit_xor (l 4 w) (l 5 w)) (λ w. bit_xor (l 6 w) (l 7 w)) ws (zip2_of_maps bit_xor (l 4) (l 5) ws e4 e5) (zip2_of_maps bit_xor (l 6) (l 7) ws e6 e7))
-      ∙ map_same (Fits w32) (eight_looks tables place) (λ w. byte_of (product 32 factor w)) looks_give ws each
+      ∙ map_same (Fits w32) (eight_looks tables index) (λ w. byte_of (product 32 factor w)) looks_give ws each
     where
       l : ℕ → ℕ → ℕ
-      l = look tables place
+      l = look tables index
 
 -- a look by the lower half of byte p
 pub lower_looks : (table ws bytes looks : List ℕ) (p : ℕ) → bytes ≡ map (λ w. w / 2 ^ (8 * p) % 256) ws → looks ≡ map (λ b. slice_index table (b % 16)) bytes
@@ -188,7 +188,7 @@ upper_looks table ws bytes halves looks p bytes_are halves_are looks_are =
 -- ---- the words of products, out of their bytes
 
 module _ (factor : ℕ) (fits : factor < 2 ^ 32) (ws : List ℕ) where
-  -- byte p of each product, at its place
+  -- byte p of each product, at its index
   abbrev placed_byte : ℕ → ℕ → ℕ
   placed_byte p w = product 32 factor w / 2 ^ (8 * p) % 256 * 2 ^ (8 * p)
 

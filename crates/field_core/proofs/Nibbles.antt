@@ -3,9 +3,9 @@ use Rattle.std.proofs.Common.{◌≡◌, ℕ, zero, suc, ◌+◌, ◌*◌, ◌/�
 use Rattle.std.specs.Int.Bits.{bit_xor, xor_self, xor_zero_l, xor_comm, xor_assoc, xor_lt, xor_shifted}
 use Rattle.std.proofs.Math.Nat.{one-mul, mod-lt, mod-one, mod-eq_of_lt, le_trans}
 use Rattle.std.proofs.lemmas.Nat.{pow_pos, pow-add, shl_below, mod-pow-add}
-use Rattle.field_rules.specs.Elements.{carryless_below, product}
+use Rattle.field_rules.specs.Elements.{carryless_product, product}
 use Rattle.field_laws.specs.Rests.{IsRest}
-use Rattle.field_laws.proofs.Carryless.{carryless_below-zero_l, carryless_below-one_l, carryless_below-one_r, carryless_below-shl_r}
+use Rattle.field_laws.proofs.Carryless.{carryless_product-zero_l, carryless_product-one_l, carryless_product-one_r, carryless_product-shl_r}
 use Rattle.field_laws.proofs.Folds.{fold_once}
 use Rattle.field_laws.proofs.Products.{product-below, product-shift, rest_is_the_product}
 use Rattle.field_laws.proofs.Rings.{product-one, product-xor, product-assoc}
@@ -14,29 +14,29 @@ use Rattle.field_core.proofs.Windows.{nibble_sums}
 
 -- ---- the words
 
--- the multiple of the low terms by the place beyond the highest
-high_place : (h : ℕ) → h < 2 → carryless_below 8 h 0x8D ≡ h * 0x8D
-high_place zero lt = carryless_below-zero_l 8 0x8D
-high_place (suc zero) lt = carryless_below-one_l 8 0x8D
-high_place (suc (suc h)) lt = absurd (omega arith)
+-- the multiple of the low terms by the bit beyond the highest
+high_byte : (h : ℕ) → h < 2 → carryless_product 8 h 0x8D ≡ h * 0x8D
+high_byte zero lt = carryless_product-zero_l 8 0x8D
+high_byte (suc zero) lt = carryless_product-one_l 8 0x8D
+high_byte (suc (suc h)) lt = absurd (omega arith)
 
--- the product by x: a shift, and the low terms where a place went beyond the highest
+-- the product by x: a shift, and the low terms where a bit went beyond the highest
 pub doubled_is : (a : ℕ) → a < 2 ^ 32 → bit_xor (a * 2 % 2 ^ 32) (a / 2 ^ 31 * 0x8D) ≡ product 32 a 2
 doubled_is a fits = rest_is_the_product 32 a 2 (bit_xor (a * 2 % 2 ^ 32) (a / 2 ^ 31 * 0x8D)) (lit< tt) fits (lit< tt) rest below
   where
-    twice : carryless_below 32 a 2 ≡ a * 2
-    twice = carryless_below-shl_r 1 31 a 1 ∙ ap (λ z. z * 2) (carryless_below-one_r 30 a)
+    twice : carryless_product 32 a 2 ≡ a * 2
+    twice = carryless_product-shl_r 1 31 a 1 ∙ ap (λ z. z * 2) (carryless_product-one_r 30 a)
 
-    place : a * 2 / 2 ^ 32 ≡ a / 2 ^ 31
-    place = omega arith
+    index : a * 2 / 2 ^ 32 ≡ a / 2 ^ 31
+    index = omega arith
 
     is_bit : a / 2 ^ 31 < 2
     is_bit = omega arith
 
-    folded : carryless_below 8 (a * 2 / 2 ^ 32) 0x8D ≡ a / 2 ^ 31 * 0x8D
-    folded = ap (λ z. carryless_below 8 z 0x8D) place ∙ high_place (a / 2 ^ 31) is_bit
+    folded : carryless_product 8 (a * 2 / 2 ^ 32) 0x8D ≡ a / 2 ^ 31 * 0x8D
+    folded = ap (λ z. carryless_product 8 z 0x8D) index ∙ high_byte (a / 2 ^ 31) is_bit
 
-    rest : IsRest 32 (carryless_below 32 a 2) (bit_xor (a * 2 % 2 ^ 32) (a / 2 ^ 31 * 0x8D))
+    rest : IsRest 32 (carryless_product 32 a 2) (bit_xor (a * 2 % 2 ^ 32) (a / 2 ^ 31 * 0x8D))
     rest =
         subst (λ z. IsRest 32 z (bit_xor (a * 2 % 2 ^ 32) (a / 2 ^ 31 * 0x8D))) (sym twice)
         (subst (λ z. IsRest 32 (a * 2) (bit_xor (a * 2 % 2 ^ 32) z)) folded (fold_once (a * 2)))
@@ -120,20 +120,20 @@ module _ (a two four eight : ℕ) (fits : a < 2 ^ 32) (by_two : two ≡ product 
 
 -- a nibble, i nibbles up, is an element
 pub nibble_fits : (i j : ℕ) → i < 8 → j < 16 → j * 2 ^ (4 * i) < 2 ^ 32
-nibble_fits i j place below = le_trans (shl_below j 4 (4 * i) below) (pow_mono {j = 32} (omega arith))
+nibble_fits i j index below = le_trans (shl_below j 4 (4 * i) below) (pow_mono {j = 32} (omega arith))
 
--- the lowest place of a nibble is an element
-place_fits : (i : ℕ) → i < 8 → 2 ^ (4 * i) < 2 ^ 32
-place_fits i place = subst (λ z. z < 2 ^ 32) (one-mul (2 ^ (4 * i))) (nibble_fits i 1 place (lit< tt))
+-- the lowest bit of a nibble is an element
+index_fits : (i : ℕ) → i < 8 → 2 ^ (4 * i) < 2 ^ 32
+index_fits i index = subst (λ z. z < 2 ^ 32) (one-mul (2 ^ (4 * i))) (nibble_fits i 1 index (lit< tt))
 
 -- the multiples of the factor's shift are the factor's multiples by the nibble
 pub table_is : (factor shifted i : ℕ) (table : List ℕ) → factor < 2 ^ 32 → i < 8 → shifted ≡ product 32 factor (2 ^ (4 * i)) → ((j : ℕ) → j < 16 → slice_index table j ≡ product 32 shifted j)
     → IsTable factor i table
-table_is factor shifted i table fits place shifted_is are j below =
+table_is factor shifted i table fits index shifted_is are j below =
     are j below
     ∙ ap (λ z. product 32 z j) shifted_is
-    ∙ product-assoc 32 factor (2 ^ (4 * i)) j (lit< tt) fits (place_fits i place) below_j
-    ∙ ap (product 32 factor) (product-shift 32 (4 * i) j (lit< tt) (place_fits i place) below_j (nibble_fits i j place below))
+    ∙ product-assoc 32 factor (2 ^ (4 * i)) j (lit< tt) fits (index_fits i index) below_j
+    ∙ ap (product 32 factor) (product-shift 32 (4 * i) j (lit< tt) (index_fits i index) below_j (nibble_fits i j index below))
   where
     below_j : j < 2 ^ 32
     below_j = omega arith
@@ -141,28 +141,28 @@ table_is factor shifted i table fits place shifted_is are j below =
 -- one table more is done
 pub tables_more : (factor i : ℕ) (tables : List (List ℕ)) (table : List ℕ) → i < length tables → ((k : ℕ) → k < i → IsTable factor k (slice_index_or tables k [])) → IsTable factor i table
     → (k : ℕ) → k < i + 1 → IsTable factor k (slice_index_or (slice_set tables i table) k [])
-tables_more factor i tables table place before here =
+tables_more factor i tables table index before here =
     below_more (λ k. IsTable factor k (slice_index_or (slice_set tables i table) k [])) i
     (λ k below. let other : k ≢ i = omega arith in subst (IsTable factor k) (sym (get_or-set_other tables i k table [] other)) (before k below))
-    (subst (IsTable factor i) (sym (get_or-set_same tables i table [] place)) here)
+    (subst (IsTable factor i) (sym (get_or-set_same tables i table [] index)) here)
 
 -- the factor's next shift
 pub shifted_next : (factor shifted eight next i : ℕ) → factor < 2 ^ 32 → i + 1 < 8 → shifted ≡ product 32 factor (2 ^ (4 * i)) → eight ≡ product 32 shifted 8 → next ≡ product 32 eight 2
     → next ≡ product 32 factor (2 ^ (4 * (i + 1)))
-shifted_next factor shifted eight next i fits place shifted_is by_eight by_two =
+shifted_next factor shifted eight next i fits index shifted_is by_eight by_two =
     by_two
     ∙ ap (λ z. product 32 z 2) by_eight
     ∙ product-assoc 32 shifted 8 2 (lit< tt) shifted_fits (lit< tt) (lit< tt)
     ∙ ap (product 32 shifted) (product-shift 32 3 2 (lit< tt) (lit< tt) (lit< tt) (lit< tt))
     ∙ ap (λ z. product 32 z 16) shifted_is
-    ∙ product-assoc 32 factor (2 ^ (4 * i)) 16 (lit< tt) fits (place_fits i here) (lit< tt)
-    ∙ ap (product 32 factor) (product-shift 32 (4 * i) 16 (lit< tt) (place_fits i here) (lit< tt) (subst (λ z. z < 2 ^ 32) up (place_fits (i + 1) place)) ∙ sym up)
+    ∙ product-assoc 32 factor (2 ^ (4 * i)) 16 (lit< tt) fits (index_fits i here) (lit< tt)
+    ∙ ap (product 32 factor) (product-shift 32 (4 * i) 16 (lit< tt) (index_fits i here) (lit< tt) (subst (λ z. z < 2 ^ 32) up (index_fits (i + 1) index)) ∙ sym up)
   where
     here : i < 8
     here = omega arith
 
     shifted_fits : shifted < 2 ^ 32
-    shifted_fits = subst (λ z. z < 2 ^ 32) (sym shifted_is) (product-below 32 factor (2 ^ (4 * i)) (lit< tt) fits (place_fits i here))
+    shifted_fits = subst (λ z. z < 2 ^ 32) (sym shifted_is) (product-below 32 factor (2 ^ (4 * i)) (lit< tt) fits (index_fits i here))
 
     more : 4 * (i + 1) ≡ 4 + 4 * i
     more = omega arith
@@ -182,7 +182,7 @@ module _ (factor b : ℕ) (fits : factor < 2 ^ 32) (b_fits : b < 2 ^ 32) where
   by_nibbles zero = 0
   by_nibbles (suc n) = bit_xor (by_nibbles n) (by_nibble n)
 
-  -- b's places below nibble i + 1, as those below nibble i and the nibble
+  -- b's bits below nibble i + 1, as those below nibble i and the nibble
   nibbles_split : (i : ℕ) → b % 2 ^ (4 * suc i) ≡ bit_xor (b % 2 ^ (4 * i)) (b / 2 ^ (4 * i) % 16 * 2 ^ (4 * i))
   nibbles_split i =
       ap (λ z. b % 2 ^ z) more
@@ -214,8 +214,8 @@ module _ (factor b : ℕ) (fits : factor < 2 ^ 32) (b_fits : b < 2 ^ 32) where
 
   -- the word of nibble i
   pub word_is : (tables : List (List ℕ)) → AreTables factor tables → (i nibble : ℕ) → i < 8 → nibble ≡ b / 2 ^ (4 * i) % 16 → slice_index (slice_index_or tables i []) nibble ≡ by_nibble i
-  word_is tables are i nibble place is =
-      are i place nibble (subst (λ z. z < 16) (sym is) (mod-lt (b / 2 ^ (4 * i)) (lit< tt)))
+  word_is tables are i nibble index is =
+      are i index nibble (subst (λ z. z < 16) (sym is) (mod-lt (b / 2 ^ (4 * i)) (lit< tt)))
       ∙ ap (λ z. product 32 factor (z * 2 ^ (4 * i))) is
 
   -- the product is what the eight words give

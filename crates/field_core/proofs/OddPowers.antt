@@ -1,4 +1,4 @@
--- Odd powers of an element, added to a list place by place.
+-- Odd powers of an element, added to a list item by item.
 use Rattle.std.proofs.Common.{◌≡◌, ℕ, suc, ◌+◌, ◌*◌, ◌<◌, ◌≤◌, List, ◌∷◌, ◌++◌, [], length, get_or, take, drop, set, refl, sym, ◌∙◌, append_assoc, add-one, arith}
 use Rattle.std.proofs.Math.Seq.{drop-cons}
 use Rattle.std.proofs.lemmas.List.{take_more_set, drop-set-lt, take-append-drop}
@@ -23,7 +23,7 @@ module _ {A : Type 0} (ops : Ops A) where
       let index : 2 * (i + 1) + 1 ≡ suc (suc (2 * i + 1)) = omega arith in
       rw (index, is, squared) (sym (ring.times_assoc (power ops e (2 * i + 1)) e e))
 
-  -- the item at place i is done, and the rest are still to come
+  -- the item at index i is done, and the rest are still to come
   pub odd_powers_more : (e p x : A) (i : ℕ) (xs : List A) → i < length xs → p ≡ power ops e (2 * i + 1)
       → take (i + 1) (set xs i (ops.plus (get_or xs i x) p)) ++ with_odd_powers ops e (i + 1) (drop (i + 1) (set xs i (ops.plus (get_or xs i x) p)))
       ≡ take i xs ++ with_odd_powers ops e i (drop i xs)
@@ -35,7 +35,7 @@ module _ {A : Type 0} (ops : Ops A) where
       let kept : drop (i + 1) (set xs i v) ≡ drop (i + 1) xs = drop-set-lt (i + 1) xs i v below in
       rw (done, kept, drop-cons xs i x lt, add-one i, append_assoc, is) refl
 
-  -- past the last place nothing is left to add
+  -- past the last index nothing is left to add
   pub odd_powers_done : (e : A) (i : ℕ) (xs : List A) → length xs ≤ i → take i xs ++ with_odd_powers ops e i (drop i xs) ≡ xs
   unfolding with_odd_powers
   odd_powers_done e i xs le =

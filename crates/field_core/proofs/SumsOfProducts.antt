@@ -3,7 +3,7 @@ use Rattle.std.proofs.Common.{◌≡◌, ℕ, suc, ◌+◌, ◌^◌, ◌<◌, �
 use Rattle.std.specs.Int.Bits.{bit_xor, xor_assoc, xor_zero_r}
 use Rattle.std.proofs.Math.Seq.{drop-cons}
 use Rattle.std.proofs.Math.ListN.{drop_of_length-le}
-use Rattle.field_rules.specs.Elements.{carryless_below, product, remainder}
+use Rattle.field_rules.specs.Elements.{carryless_product, product, remainder}
 use Rattle.field_rules.specs.Fields.{dot_of}
 use Rattle.field_core.specs.declared.gf32.Gf32.{Gf32}
 use Rattle.field_core.specs.Gf32.{ops, bits_of}
@@ -11,7 +11,7 @@ use Rattle.field_core.proofs.Reductions.{remainder-xor}
 
 -- one carryless product more
 pub sum_more : (sum p : ℕ) (a b : Gf32) (i : ℕ) (xs ys : List Gf32) → sum < 2 ^ 64 → p < 2 ^ 64 → i < length xs → i < length ys
-    → p ≡ carryless_below 32 (bits_of (get_or xs i a)) (bits_of (get_or ys i b))
+    → p ≡ carryless_product 32 (bits_of (get_or xs i a)) (bits_of (get_or ys i b))
     → bit_xor (remainder 32 32 (bit_xor sum p)) (bits_of (dot_of ops (drop (i + 1) xs) (drop (i + 1) ys)))
     ≡ bit_xor (remainder 32 32 sum) (bits_of (dot_of ops (drop i xs) (drop i ys)))
 unfolding dot_of product
@@ -19,7 +19,7 @@ sum_more sum p a b i xs ys fits_sum fits inside within is =
     rw (drop-cons xs i a inside, drop-cons ys i b within, add-one i, remainder-xor sum p fits_sum fits, is)
     (xor_assoc (remainder 32 32 sum) (product 32 (bits_of (get_or xs i a)) (bits_of (get_or ys i b))) (bits_of (dot_of ops (drop (suc i) xs) (drop (suc i) ys))))
 
--- past the last place no product is left
+-- past the last index no product is left
 pub sum_done : (sum i : ℕ) (xs ys : List Gf32) → length xs ≤ i → bit_xor (remainder 32 32 sum) (bits_of (dot_of ops (drop i xs) ys)) ≡ remainder 32 32 sum
 unfolding dot_of
 sum_done sum i xs ys le =

@@ -6,12 +6,12 @@ use mathlib.Core.HLevel.{is_prop→PathP}
 use native.Mathlib.Bridge.{le_prop}
 use Rattle.field_rules.specs.Ops.{Ops, IsRing}
 use Rattle.field_rules.specs.Elements.{product}
-use Rattle.field_rules.specs.Fields.{IsField, IsToldApart}
+use Rattle.field_rules.specs.Fields.{IsField, IsSeparatedByTrace}
 use Rattle.field_rules.specs.Numbered.{IsNumbered}
 use Rattle.field_laws.proofs.Products.{product-below}
 use Rattle.field_laws.proofs.Rings.{ring_of_numbered}
-use Rattle.field_laws.proofs.Fields.{field_of_certified, told_apart}
-use Rattle.field_laws.proofs.Certified32.{certified_32}
+use Rattle.field_laws.proofs.Fields.{field_of_certificate, separated_by_trace}
+use Rattle.field_laws.proofs.Certified32.{certificate_32}
 use Rattle.field_core.specs.declared.gf32.Gf32.{Gf32}
 
 -- the bits of an element
@@ -60,8 +60,8 @@ ring = ring_of_numbered ops bits_of 32 (lit< tt) numbered
 
 -- the laws of a field
 pub field : IsField ops 32
-field = field_of_certified ops bits_of 32 ring numbered certified_32
+field = field_of_certificate ops bits_of 32 ring numbered certificate_32
 
 -- different elements are told apart by the traces of their products with some power of x
-pub separates : (a b : Gf32) → a ≢ b → IsToldApart ops bits_of 32 a b
-separates = told_apart ops bits_of 32 ring numbered certified_32
+pub separates : (a b : Gf32) → a ≢ b → IsSeparatedByTrace ops bits_of 32 a b
+separates = separated_by_trace ops bits_of 32 ring numbered certificate_32

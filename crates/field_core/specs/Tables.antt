@@ -2,7 +2,7 @@
 use Rattle.std.specs.Prelude.{◌≡◌, ℕ, ◌+◌, ◌*◌, ◌/◌, ◌%◌, ◌^◌, ◌<◌, List, [], slice_index, slice_index_or}
 use Rattle.field_rules.specs.Elements.{product}
 
--- place j of a table is the factor's product with the polynomial j, i nibbles up
+-- index j of a table has the factor's product with the polynomial j, i nibbles up
 abbrev pub IsTable : ℕ → ℕ → List ℕ → Type 0
 IsTable factor i table = (j : ℕ) → j < 16 → slice_index table j ≡ product 32 factor (j * 2 ^ (4 * i))
 
@@ -10,7 +10,7 @@ IsTable factor i table = (j : ℕ) → j < 16 → slice_index table j ≡ produc
 abbrev pub AreTables : ℕ → List (List ℕ) → Type 0
 AreTables factor tables = (i : ℕ) → i < 8 → IsTable factor i (slice_index_or tables i [])
 
--- place j of a byte table is byte b of that product
+-- index j of a byte table has byte b of that product
 abbrev pub IsByteTable : ℕ → ℕ → ℕ → List ℕ → Type 0
 IsByteTable factor i b table = (j : ℕ) → j < 16 → slice_index table j ≡ product 32 factor (j * 2 ^ (4 * i)) / 2 ^ (8 * b) % 256
 

@@ -1,14 +1,14 @@
 //! Products of polynomials over GF(2), and their remainders by `x ^ 32 + x ^ 7 + x ^ 3 + x ^ 2 + 1`.
 
 ghost use Rattle.std.specs.Prelude.{◌≡◌, ℕ, ◌<◌, ◌^◌, ◌/◌, ◌%◌, slice_index, bit_xor};
-ghost use Rattle.field_rules.specs.Elements.{carryless_below, remainder};
+ghost use Rattle.field_rules.specs.Elements.{carryless_product, remainder};
 ghost use Rattle.field_rules.specs.Elements.{product as product_of};
 
 use crate::nibble_tables::nibble_sums;
 
 /// The multiples of `a` by the 16 polynomials of 4 bits.
 fn multiples(a: u32) -> [u64; 16]
-    ensures { (k : ℕ) → k < 16 → slice_index result k ≡ carryless_below 4 a k }
+    ensures { (k : ℕ) → k < 16 → slice_index result k ≡ carryless_product 4 a k }
 {
     let one = a as u64;
     nibble_sums!(one, one * 2, one * 4, one * 8)
@@ -16,7 +16,7 @@ fn multiples(a: u32) -> [u64; 16]
 
 /// The product of two polynomials, by windows of 4 bits from the top.
 pub fn carryless(a: u32, b: u32) -> u64
-    ensures { result ≡ carryless_below 32 a b }
+    ensures { result ≡ carryless_product 32 a b }
 {
     let table = multiples(a);
     let mut sum: u64 = 0;
@@ -30,7 +30,7 @@ pub fn carryless(a: u32, b: u32) -> u64
 /// What may stand for `p` where only its remainder by the modulus counts: its terms from `x ^ 32` on are replaced by
 /// their product with the modulus's lower terms.
 fn folded(p: u64) -> u64
-    ensures { result ≡ bit_xor (p % 2 ^ 32) (carryless_below 8 (p / 2 ^ 32) 0x8D) }
+    ensures { result ≡ bit_xor (p % 2 ^ 32) (carryless_product 8 (p / 2 ^ 32) 0x8D) }
 {
     let high = p >> 32;
     (p & 0xffff_ffff) ^ (high ^ (high << 2) ^ (high << 3) ^ (high << 7))

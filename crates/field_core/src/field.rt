@@ -3,7 +3,7 @@
 ghost use Rattle.std.specs.Prelude.{◌≡◌, ◌≢◌, ◌↔◌, ℕ, ◌<◌, ◌^◌, bit_xor, nat_eq, IsTrue, length, map};
 ghost use Rattle.std.specs.Ordering.{nat_cmp};
 ghost use Rattle.field_rules.specs.Ops.{Ops, IsRing, with_odd_powers};
-ghost use Rattle.field_rules.specs.Fields.{IsField, IsToldApart, trace_of, with_multiple, dot_of};
+ghost use Rattle.field_rules.specs.Fields.{IsField, IsSeparatedByTrace, trace_of, with_multiple, dot_of};
 ghost use Rattle.field_rules.specs.Elements.{IsProduct};
 ghost use Rattle.field_rules.specs.Numbered.{IsNumbered};
 
@@ -83,7 +83,7 @@ pub trait Field: Copy + Eq + Ord {
         sum == Self::ONE
     }
 
-    /// Adds `k` times the item of `x` at each place to the item of `acc` at that place.
+    /// Adds `k` times the item of `x` at each index to the item of `acc` at that index.
     fn axpy(acc: &mut [Self], k: Self, x: &[Self])
         requires { length acc.old ≡ length x.now }
         ensures { acc.new ≡ with_multiple ops acc.old k x.now }
@@ -93,7 +93,7 @@ pub trait Field: Copy + Eq + Ord {
         }
     }
 
-    /// The sum of the products of the items at the same place.
+    /// The sum of the products of the items at the same index.
     fn dot(x: &[Self], y: &[Self]) -> Self
         requires { length x.now ≡ length y.now }
         ensures { result ≡ dot_of ops x.now y.now }
@@ -114,7 +114,7 @@ pub trait Field: Copy + Eq + Ord {
         }
     }
 
-    /// Adds `e ^ (2i + 1)` to the item at place i, for each place.
+    /// Adds `e ^ (2i + 1)` to the item at index i, for each index.
     fn odd_powers_into(acc: &mut [Self], e: Self)
         ensures { acc.new ≡ with_odd_powers ops e 0 acc.old }
     {
@@ -132,7 +132,7 @@ pub trait Field: Copy + Eq + Ord {
 
     ghost field: { IsField ops BITS };
 
-    ghost separates: { (a b : Self) → a ≢ b → IsToldApart ops bits_of BITS a b };
+    ghost separates: { (a b : Self) → a ≢ b → IsSeparatedByTrace ops bits_of BITS a b };
 
     ghost zero_is: { ops.zero ≡ ZERO };
 

@@ -7,10 +7,10 @@ use crate::axpy::{axpy_by_lanes, axpy_by_multiples, axpy_by_products};
 use crate::carryless::{carryless, product, reduce};
 use crate::odd_powers::{add_by_multiples, add_by_products};
 
-/// From how many places on the multiples of a factor are worth making.
+/// From how many items on the multiples of a factor are worth making.
 const MULTIPLES_PAY_FROM: usize = 16;
 
-/// From how many places on they are worth making for sixteen places at once.
+/// From how many items on they are worth making for sixteen items at once.
 const LANES_PAY_FROM: usize = 48;
 
 /// An element of the field of 2 ^ 32 elements, modulo `x ^ 32 + x ^ 7 + x ^ 3 + x ^ 2 + 1`. Bit i is the coefficient

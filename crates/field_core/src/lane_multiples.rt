@@ -55,20 +55,20 @@ impl LaneMultiples {
     }
 }
 
-/// Byte `place` of the product of each word and the factor of the tables. Inlined, the four places share the bytes of
+/// Byte `index` of the product of each word and the factor of the tables. Inlined, the four calls share the bytes of
 /// the words.
 #[inline(always)]
-fn bytes_of_products(t: &[[u8; 16]; 32], words: u32x16, place: usize) -> u8x16
-    requires { place < 4 }
+fn bytes_of_products(t: &[[u8; 16]; 32], words: u32x16, index: usize) -> u8x16
+    requires { index < 4 }
     ensures { (factor : ℕ) → factor < 2 ^ 32 → AreByteTables factor t.now
-        → result ≡ map (λ w. product 32 factor w / 2 ^ (8 * place) % 256) words }
+        → result ≡ map (λ w. product 32 factor w / 2 ^ (8 * index) % 256) words }
 {
     let (first, second) = (bytes_at(words, 0), bytes_at(words, 1));
     let (third, fourth) = (bytes_at(words, 2), bytes_at(words, 3));
-    let low = (looked_up(t[place], first) ^ looked_up(t[4 + place], upper_halves(first)))
-        ^ (looked_up(t[8 + place], second) ^ looked_up(t[12 + place], upper_halves(second)));
-    let high = (looked_up(t[16 + place], third) ^ looked_up(t[20 + place], upper_halves(third)))
-        ^ (looked_up(t[24 + place], fourth) ^ looked_up(t[28 + place], upper_halves(fourth)));
+    let low = (looked_up(t[index], first) ^ looked_up(t[4 + index], upper_halves(first)))
+        ^ (looked_up(t[8 + index], second) ^ looked_up(t[12 + index], upper_halves(second)));
+    let high = (looked_up(t[16 + index], third) ^ looked_up(t[20 + index], upper_halves(third)))
+        ^ (looked_up(t[24 + index], fourth) ^ looked_up(t[28 + index], upper_halves(fourth)));
     low ^ high
 }
 

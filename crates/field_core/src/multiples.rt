@@ -58,7 +58,7 @@ impl Multiples {
     }
 }
 
-/// The nibble of `b` at place i, where 0 is the lowest.
+/// Nibble i of `b`, where 0 is the lowest.
 fn nibble(b: u32, i: u32) -> usize
     requires { i < 8 }
     ensures value { result ≡ b / 2 ^ (4 * i) % 16 }

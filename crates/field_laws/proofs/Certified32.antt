@@ -1,8 +1,8 @@
 -- The tests of the field of 2 ^ 32 elements. The table and the element are those that bench/tables.py prints.
 use Rattle.std.proofs.Common.{◌≡◌, ℕ, true, List, [], ◌∷◌, refl, lit<}
-use Rattle.field_rules.specs.Elements.{carryless_below, remainder, product, numbers}
+use Rattle.field_rules.specs.Elements.{carryless_product, remainder, product, numbers}
 use Rattle.field_rules.specs.Fields.{conjugate, trace_of}
-use Rattle.field_laws.specs.Certified.{selected, solves, Certified}
+use Rattle.field_laws.specs.Certified.{bit_selection, is_inverse_table, Certificate}
 
 -- undoes e ^ 2 + e, but for the lowest bit
 abbrev table_32 : List ℕ
@@ -14,22 +14,22 @@ table_32 =
 
 -- x, squared 32 times, is x
 x_returns_32 : conjugate (numbers 32) 32 2 ≡ 2
-unfolding conjugate product remainder carryless_below
+unfolding conjugate product remainder carryless_product
 x_returns_32 = refl
 
 -- the table does what it is for
-solved_32 : solves 32 table_32 31 ≡ true
-unfolding solves selected product remainder carryless_below
+solved_32 : is_inverse_table 32 table_32 31 ≡ true
+unfolding is_inverse_table bit_selection product remainder carryless_product
 solved_32 = refl
 
 -- x ^ 25 has trace 1
 trace_one_32 : trace_of (numbers 32) 32 0x2000000 ≡ 1
-unfolding trace_of conjugate product remainder carryless_below
+unfolding trace_of conjugate product remainder carryless_product
 trace_one_32 = refl
 
 -- the three tests together
-pub certified_32 : Certified 32
-certified_32 = record {
+pub certificate_32 : Certificate 32
+certificate_32 = record {
   is_width = lit< tt;
   table = table_32;
   element = 0x2000000;

@@ -7,10 +7,10 @@ use Rattle.field_rules.specs.Ops.{Ops, IsRing}
 use Rattle.field_rules.specs.Elements.{IsWidth, product}
 use Rattle.field_rules.specs.Fields.{IsField}
 use Rattle.field_rules.specs.Numbered.{IsNumbered}
-use Rattle.field_laws.specs.Certified.{Certified}
+use Rattle.field_laws.specs.Certified.{Certificate}
 use Rattle.field_laws.proofs.Products.{product-below}
 use Rattle.field_laws.proofs.Rings.{one_fits, ring_of_numbered}
-use Rattle.field_laws.proofs.Fields.{field_of_certified}
+use Rattle.field_laws.proofs.Fields.{field_of_certificate}
 
 -- a number below 2 ^ width
 pub record Element (width : ℕ) : Type 0 where
@@ -54,6 +54,6 @@ module _ (width : ℕ) (w : IsWidth width) where
   ring = ring_of_numbered ops (bits_of width) width w numbered
 
 -- the laws of a field
-pub field : (width : ℕ) (certified : Certified width) → IsField (ops width certified.is_width) width
+pub field : (width : ℕ) (certified : Certificate width) → IsField (ops width certified.is_width) width
 field width certified =
-    field_of_certified (ops width certified.is_width) (bits_of width) width (ring width certified.is_width) (numbered width certified.is_width) certified
+    field_of_certificate (ops width certified.is_width) (bits_of width) width (ring width certified.is_width) (numbered width certified.is_width) certified

@@ -9,9 +9,9 @@ use Rattle.std.proofs.lemmas.Bool.{cases_eq}
 use Rattle.std.proofs.lemmas.Bool.Decides.{Decides-eqb}
 use Rattle.field_rules.specs.Ops.{Ops, IsRing}
 use Rattle.field_rules.specs.Elements.{product, numbers}
-use Rattle.field_rules.specs.Fields.{conjugate, trace_of, IsField, IsToldApart}
+use Rattle.field_rules.specs.Fields.{conjugate, trace_of, IsField, IsSeparatedByTrace}
 use Rattle.field_rules.specs.Numbered.{IsNumbered}
-use Rattle.field_laws.specs.Certified.{selected, square_and_own, solves, Certified}
+use Rattle.field_laws.specs.Certified.{bit_selection, square_plus_element, is_inverse_table, Certificate}
 use Rattle.field_laws.proofs.Xors.{bit_cases, xor_swap}
 use Rattle.field_laws.proofs.Carryless.{xor_digits}
 use Rattle.field_laws.proofs.RingFacts.{times_zero, zero_times, distributes_left, same_of_sum, square_plus, plus_swap}
@@ -23,21 +23,21 @@ use Rattle.field_laws.proofs.PowersOfX.{product-x, by_powers_of_x, conjugate-bit
 
 -- ---- the table
 
--- no place selects nothing
-selected-zero : (i : ℕ) (table : List ℕ) → selected i table 0 ≡ 0
-unfolding selected
-selected-zero i [] = refl
-selected-zero i (t ∷ table) = rw (selected-zero (i + 1) table, bit_at-zero i, zero-mul) (xor_zero_l 0)
+-- no bit selects nothing
+bit_selection-zero : (i : ℕ) (table : List ℕ) → bit_selection i table 0 ≡ 0
+unfolding bit_selection
+bit_selection-zero i [] = refl
+bit_selection-zero i (t ∷ table) = rw (bit_selection-zero (i + 1) table, bit_at-zero i, zero-mul) (xor_zero_l 0)
 
 -- what the table selects keeps exclusive ors
-selected-xor : (i : ℕ) (table : List ℕ) (u v : ℕ) → selected i table (bit_xor u v) ≡ bit_xor (selected i table u) (selected i table v)
-unfolding selected
-selected-xor i [] u v = sym (xor_zero_l 0)
-selected-xor i (t ∷ table) u v =
-    ap (λ z. bit_xor (z * t) (selected (i + 1) table (bit_xor u v))) (bit_at_xor u v i)
-    ∙ ap (λ z. bit_xor z (selected (i + 1) table (bit_xor u v))) (xor_digits (bit_at u i) (bit_at v i) t (bit_cases u i) (bit_cases v i))
-    ∙ ap (bit_xor (bit_xor (bit_at u i * t) (bit_at v i * t))) (selected-xor (i + 1) table u v)
-    ∙ xor_swap (bit_at u i * t) (bit_at v i * t) (selected (i + 1) table u) (selected (i + 1) table v)
+bit_selection-xor : (i : ℕ) (table : List ℕ) (u v : ℕ) → bit_selection i table (bit_xor u v) ≡ bit_xor (bit_selection i table u) (bit_selection i table v)
+unfolding bit_selection
+bit_selection-xor i [] u v = sym (xor_zero_l 0)
+bit_selection-xor i (t ∷ table) u v =
+    ap (λ z. bit_xor (z * t) (bit_selection (i + 1) table (bit_xor u v))) (bit_at_xor u v i)
+    ∙ ap (λ z. bit_xor z (bit_selection (i + 1) table (bit_xor u v))) (xor_digits (bit_at u i) (bit_at v i) t (bit_cases u i) (bit_cases v i))
+    ∙ ap (bit_xor (bit_xor (bit_at u i * t) (bit_at v i * t))) (bit_selection-xor (i + 1) table u v)
+    ∙ xor_swap (bit_at u i * t) (bit_at v i * t) (bit_selection (i + 1) table u) (bit_selection (i + 1) table v)
 
 -- a test of two parts
 both : (b c : Bool) → (b && c) ≡ true → (b ≡ true) × (c ≡ true)
@@ -45,18 +45,18 @@ both true c e = (refl, e)
 both false c e = cc
 
 -- the tests of the table, one by one
-solves-at : (width n j : ℕ) (table : List ℕ) → solves width table n ≡ true → j < n → selected 0 table (square_and_own width (2 ^ suc j)) ≡ 2 ^ suc j
-unfolding solves
-solves-at width zero j table solved lt = absurd (omega arith)
-solves-at width (suc n) j table solved lt =
-    by (both (selected 0 table (square_and_own width (2 ^ suc n)) == 2 ^ suc n) (solves width table n) solved) (cases_eq j n) (solves-at width n j table)
+is_inverse_table-at : (width n j : ℕ) (table : List ℕ) → is_inverse_table width table n ≡ true → j < n → bit_selection 0 table (square_plus_element width (2 ^ suc j)) ≡ 2 ^ suc j
+unfolding is_inverse_table
+is_inverse_table-at width zero j table solved lt = absurd (omega arith)
+is_inverse_table-at width (suc n) j table solved lt =
+    by (both (bit_selection 0 table (square_plus_element width (2 ^ suc n)) == 2 ^ suc n) (is_inverse_table width table n) solved) (cases_eq j n) (is_inverse_table-at width n j table)
   where
-    by : ((selected 0 table (square_and_own width (2 ^ suc n)) == 2 ^ suc n) ≡ true) × (solves width table n ≡ true) → (j ≡ n) ⊎ (j ≡ n → ⊥)
-        → (solves width table n ≡ true → j < n → selected 0 table (square_and_own width (2 ^ suc j)) ≡ 2 ^ suc j)
-        → selected 0 table (square_and_own width (2 ^ suc j)) ≡ 2 ^ suc j
+    by : ((bit_selection 0 table (square_plus_element width (2 ^ suc n)) == 2 ^ suc n) ≡ true) × (is_inverse_table width table n ≡ true) → (j ≡ n) ⊎ (j ≡ n → ⊥)
+        → (is_inverse_table width table n ≡ true → j < n → bit_selection 0 table (square_plus_element width (2 ^ suc j)) ≡ 2 ^ suc j)
+        → bit_selection 0 table (square_plus_element width (2 ^ suc j)) ≡ 2 ^ suc j
     by tests (inl same) before =
-        subst (λ z. selected 0 table (square_and_own width (2 ^ suc z)) ≡ 2 ^ suc z) (sym same)
-        ((Decides-eqb (selected 0 table (square_and_own width (2 ^ suc n))) (2 ^ suc n)).0 tests.0)
+        subst (λ z. bit_selection 0 table (square_plus_element width (2 ^ suc z)) ≡ 2 ^ suc z) (sym same)
+        ((Decides-eqb (bit_selection 0 table (square_plus_element width (2 ^ suc n))) (2 ^ suc n)).0 tests.0)
     by tests (inr other) before = before tests.1 (omega arith)
 
 -- the exclusive or of bits is a bit
@@ -78,7 +78,7 @@ module _ {A : Type 0} (ops : Ops A) (bits_of : A → ℕ) (width : ℕ) (ring : 
 
   -- ---- from the tests
 
-  module _ (certified : Certified width) where
+  module _ (certified : Certificate width) where
     -- a power of x, squared width times, is itself
     power_returns : (j : ℕ) → j < width → (e : A) → bits_of e ≡ 2 ^ j → conjugate ops width e ≡ e
     power_returns zero lt e is =
@@ -109,31 +109,31 @@ module _ {A : Type 0} (ops : Ops A) (bits_of : A → ℕ) (width : ℕ) (ring : 
 
     -- what is left of a by the table: the lowest bit
     abbrev rest_of : A → ℕ
-    rest_of a = bit_xor (selected 0 certified.table (bits_of (ops.plus (ops.times a a) a))) (bits_of a)
+    rest_of a = bit_xor (bit_selection 0 certified.table (bits_of (ops.plus (ops.times a a) a))) (bits_of a)
 
     -- it keeps sums
     rest_of-plus : (a b : A) → rest_of (ops.plus a b) ≡ bit_xor (rest_of a) (rest_of b)
     rest_of-plus a b =
-        ap (bit_xor (selected 0 certified.table (bits_of (ops.plus (ops.times (ops.plus a b) (ops.plus a b)) (ops.plus a b))))) (numbered.plus_bits a b)
+        ap (bit_xor (bit_selection 0 certified.table (bits_of (ops.plus (ops.times (ops.plus a b) (ops.plus a b)) (ops.plus a b))))) (numbered.plus_bits a b)
         ∙ ap (λ z. bit_xor z (bit_xor (bits_of a) (bits_of b))) selects
-        ∙ xor_swap (selected 0 certified.table (bits_of (ops.plus (ops.times a a) a))) (selected 0 certified.table (bits_of (ops.plus (ops.times b b) b))) (bits_of a) (bits_of b)
+        ∙ xor_swap (bit_selection 0 certified.table (bits_of (ops.plus (ops.times a a) a))) (bit_selection 0 certified.table (bits_of (ops.plus (ops.times b b) b))) (bits_of a) (bits_of b)
       where
         sums : ops.plus (ops.times (ops.plus a b) (ops.plus a b)) (ops.plus a b) ≡ ops.plus (ops.plus (ops.times a a) a) (ops.plus (ops.times b b) b)
         sums = ap (λ z. ops.plus z (ops.plus a b)) (square_plus ops ring a b) ∙ plus_swap ops ring (ops.times a a) (ops.times b b) a b
 
-        selects : selected 0 certified.table (bits_of (ops.plus (ops.times (ops.plus a b) (ops.plus a b)) (ops.plus a b)))
-            ≡ bit_xor (selected 0 certified.table (bits_of (ops.plus (ops.times a a) a))) (selected 0 certified.table (bits_of (ops.plus (ops.times b b) b)))
+        selects : bit_selection 0 certified.table (bits_of (ops.plus (ops.times (ops.plus a b) (ops.plus a b)) (ops.plus a b)))
+            ≡ bit_xor (bit_selection 0 certified.table (bits_of (ops.plus (ops.times a a) a))) (bit_selection 0 certified.table (bits_of (ops.plus (ops.times b b) b)))
         selects =
-            ap (λ z. selected 0 certified.table (bits_of z)) sums
-            ∙ ap (selected 0 certified.table) (numbered.plus_bits (ops.plus (ops.times a a) a) (ops.plus (ops.times b b) b))
-            ∙ selected-xor 0 certified.table (bits_of (ops.plus (ops.times a a) a)) (bits_of (ops.plus (ops.times b b) b))
+            ap (λ z. bit_selection 0 certified.table (bits_of z)) sums
+            ∙ ap (bit_selection 0 certified.table) (numbered.plus_bits (ops.plus (ops.times a a) a) (ops.plus (ops.times b b) b))
+            ∙ bit_selection-xor 0 certified.table (bits_of (ops.plus (ops.times a a) a)) (bits_of (ops.plus (ops.times b b) b))
 
     -- an element that is its own square selects nothing
     own_rest : (e : A) → ops.times e e ≡ e → rest_of e ≡ bits_of e
     own_rest e own =
-        ap (λ z. bit_xor (selected 0 certified.table (bits_of z)) (bits_of e)) (ap (λ z. ops.plus z e) own ∙ ring.plus_self e)
-        ∙ ap (λ z. bit_xor (selected 0 certified.table z) (bits_of e)) numbered.zero_bits
-        ∙ ap (λ z. bit_xor z (bits_of e)) (selected-zero 0 certified.table)
+        ap (λ z. bit_xor (bit_selection 0 certified.table (bits_of z)) (bits_of e)) (ap (λ z. ops.plus z e) own ∙ ring.plus_self e)
+        ∙ ap (λ z. bit_xor (bit_selection 0 certified.table z) (bits_of e)) numbered.zero_bits
+        ∙ ap (λ z. bit_xor z (bits_of e)) (bit_selection-zero 0 certified.table)
         ∙ xor_zero_l (bits_of e)
 
     -- of a power of x it is 0 or 1
@@ -145,9 +145,9 @@ module _ {A : Type 0} (ops : Ops A) (bits_of : A → ℕ) (width : ℕ) (ring : 
             let first : e ≡ ops.one = numbered.same e ops.one (is ∙ sym numbered.one_bits) in
             ap (ops.times e) first ∙ ring.times_one e
     power_rest (suc j) lt e is =
-        inl (ap (λ z. bit_xor (selected 0 certified.table z) (bits_of e)) (numbered.plus_bits (ops.times e e) e ∙ ap (λ z. bit_xor z (bits_of e)) (numbered.times_bits e e))
-        ∙ ap (λ z. bit_xor (selected 0 certified.table (square_and_own width z)) z) is
-        ∙ ap (λ z. bit_xor z (2 ^ suc j)) (solves-at width (width - 1) j certified.table certified.solved (omega arith))
+        inl (ap (λ z. bit_xor (bit_selection 0 certified.table z) (bits_of e)) (numbered.plus_bits (ops.times e e) e ∙ ap (λ z. bit_xor z (bits_of e)) (numbered.times_bits e e))
+        ∙ ap (λ z. bit_xor (bit_selection 0 certified.table (square_plus_element width z)) z) is
+        ∙ ap (λ z. bit_xor z (2 ^ suc j)) (is_inverse_table-at width (width - 1) j certified.table certified.solved (omega arith))
         ∙ xor_self (2 ^ suc j))
 
     -- and so it is of each element
@@ -185,8 +185,8 @@ module _ {A : Type 0} (ops : Ops A) (bits_of : A → ℕ) (width : ℕ) (ring : 
     one_is_not_zero same = let bits : bits_of ops.one ≡ bits_of ops.zero = ap bits_of same in omega (arith, numbered.one_bits, numbered.zero_bits)
 
     -- the field
-    pub field_of_certified : IsField ops width
-    field_of_certified = record {
+    pub field_of_certificate : IsField ops width
+    field_of_certificate = record {
       apart = one_is_not_zero;
       returns = all_return;
       no_zero_divisor = zero_product;
@@ -198,7 +198,7 @@ module _ {A : Type 0} (ops : Ops A) (bits_of : A → ℕ) (width : ℕ) (ring : 
 
     -- some power of x tells a and b apart by the traces of its products with them, or none below x ^ n does
     some_or_none : (a b : A) (n : ℕ) → n ≤ width
-        → IsToldApart ops bits_of width a b ⊎ ((j : ℕ) → j < n → (e : A) → bits_of e ≡ 2 ^ j → trace_of ops width (ops.times e a) ≡ trace_of ops width (ops.times e b))
+        → IsSeparatedByTrace ops bits_of width a b ⊎ ((j : ℕ) → j < n → (e : A) → bits_of e ≡ 2 ^ j → trace_of ops width (ops.times e a) ≡ trace_of ops width (ops.times e b))
     some_or_none a b zero le = inr (λ j lt e is. absurd (omega arith))
     some_or_none a b (suc n) le =
         let top : (e : A) × (bits_of e ≡ 2 ^ n) = numbered.filled (2 ^ n) (pow-lt le) in
@@ -214,12 +214,12 @@ module _ {A : Type 0} (ops : Ops A) (bits_of : A → ℕ) (width : ℕ) (ring : 
             subst (λ z. trace_of ops width (ops.times z a) ≡ trace_of ops width (ops.times z b)) whole same
         more top none same j lt e is (inr other) = none j (omega arith) e is
 
-        by : (top : (e : A) × (bits_of e ≡ 2 ^ n)) → IsToldApart ops bits_of width a b ⊎ None n
+        by : (top : (e : A) × (bits_of e ≡ 2 ^ n)) → IsSeparatedByTrace ops bits_of width a b ⊎ None n
             → (trace_of ops width (ops.times top.0 a) ≡ trace_of ops width (ops.times top.0 b)) ⊎ (trace_of ops width (ops.times top.0 a) ≡ trace_of ops width (ops.times top.0 b) → ⊥)
-            → IsToldApart ops bits_of width a b ⊎ None (suc n)
+            → IsSeparatedByTrace ops bits_of width a b ⊎ None (suc n)
         by top (inl some) tests = inl some
         by top (inr none) (inl same) = inr (λ j lt e is. more top none same j lt e is (cases_eq j n))
-        by top (inr none) (inr differ) = inl (record { place = n; below = le; by = top.0; bits = top.1; differ = differ })
+        by top (inr none) (inr differ) = inl (record { exponent = n; below = le; by = top.0; bits = top.1; differ = differ })
 
     -- where no power of x tells a and b apart, no element does
     none_apart : (a b : A) → ((j : ℕ) → j < width → (e : A) → bits_of e ≡ 2 ^ j → trace_of ops width (ops.times e a) ≡ trace_of ops width (ops.times e b))
@@ -238,12 +238,12 @@ module _ {A : Type 0} (ops : Ops A) (bits_of : A → ℕ) (width : ℕ) (ring : 
         ∙ ring.plus_self (trace_of ops width (ops.times e b)))
 
     -- two different elements are told apart
-    pub told_apart : (a b : A) → a ≢ b → IsToldApart ops bits_of width a b
-    told_apart a b different =
+    pub separated_by_trace : (a b : A) → a ≢ b → IsSeparatedByTrace ops bits_of width a b
+    separated_by_trace a b different =
         by (some_or_none a b width (le_refl width)) (numbered.filled certified.element certified.small) (all_invertible (ops.plus a b) (λ none. different (same_of_sum ops ring a b none)))
       where
-        by : IsToldApart ops bits_of width a b ⊎ ((j : ℕ) → j < width → (e : A) → bits_of e ≡ 2 ^ j → trace_of ops width (ops.times e a) ≡ trace_of ops width (ops.times e b))
-            → (t : A) × (bits_of t ≡ certified.element) → (c : A) × (ops.times (ops.plus a b) c ≡ ops.one) → IsToldApart ops bits_of width a b
+        by : IsSeparatedByTrace ops bits_of width a b ⊎ ((j : ℕ) → j < width → (e : A) → bits_of e ≡ 2 ^ j → trace_of ops width (ops.times e a) ≡ trace_of ops width (ops.times e b))
+            → (t : A) × (bits_of t ≡ certified.element) → (c : A) × (ops.times (ops.plus a b) c ≡ ops.one) → IsSeparatedByTrace ops bits_of width a b
         by (inl some) t inverse = some
         by (inr none) t inverse = absurd (one_is_not_zero (sym trace_one ∙ ap (trace_of ops width) (sym back) ∙ none_apart a b none (ops.times t.0 inverse.0)))
           where

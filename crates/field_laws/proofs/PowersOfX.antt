@@ -6,19 +6,19 @@ use Rattle.std.proofs.Math.Pow.{pow-lt}
 use Rattle.std.proofs.lemmas.Nat.{shr_high}
 use Rattle.std.proofs.lemmas.Bool.{cases_lt}
 use Rattle.field_rules.specs.Ops.{Ops}
-use Rattle.field_rules.specs.Elements.{carryless_below, IsWidth, product, numbers}
+use Rattle.field_rules.specs.Elements.{carryless_product, IsWidth, product, numbers}
 use Rattle.field_rules.specs.Fields.{conjugate, trace_of}
 use Rattle.field_rules.specs.Numbered.{IsNumbered}
 use Rattle.field_laws.specs.Rests.{IsRest}
 use Rattle.field_laws.proofs.Xors.{xor_twice, top_cancels}
-use Rattle.field_laws.proofs.Carryless.{carryless_below-shl_l, carryless_below-one_l}
+use Rattle.field_laws.proofs.Carryless.{carryless_product-shl_l, carryless_product-one_l}
 use Rattle.field_laws.proofs.Remainders.{rest_self, rest_only}
 use Rattle.field_laws.proofs.Products.{product_is_rest, product-below}
 
 -- the product of a power of x by x is the next one
 pub product-x : (width j : ℕ) → IsWidth width → suc j < width → product width (2 ^ j) 2 ≡ 2 ^ suc j
 product-x width j w lt =
-    rest_only width (carryless_below width (2 ^ j) 2) (product width (2 ^ j) 2) (2 ^ suc j) w (product_is_rest width (2 ^ j) 2 w)
+    rest_only width (carryless_product width (2 ^ j) 2) (product width (2 ^ j) 2) (2 ^ suc j) w (product_is_rest width (2 ^ j) 2 w)
     (subst (λ z. IsRest width z (2 ^ suc j)) (sym shifted) (rest_self width (2 ^ suc j)))
     (product-below width (2 ^ j) 2 w (pow-lt (omega arith)) two)
     (pow-lt lt)
@@ -26,15 +26,15 @@ product-x width j w lt =
     two : 2 < 2 ^ width
     two = pow-lt {i = 1} {j = width} (omega arith)
 
-    shifted : carryless_below width (2 ^ j) 2 ≡ 2 ^ suc j
+    shifted : carryless_product width (2 ^ j) 2 ≡ 2 ^ suc j
     shifted =
-        ap (λ z. carryless_below width z 2) (sym (one-mul (2 ^ j)))
-        ∙ carryless_below-shl_l width 1 j 2
-        ∙ ap (λ z. z * 2 ^ j) (carryless_below-one_l width 2 ∙ mod-eq_of_lt two)
+        ap (λ z. carryless_product width z 2) (sym (one-mul (2 ^ j)))
+        ∙ carryless_product-shl_l width 1 j 2
+        ∙ ap (λ z. z * 2 ^ j) (carryless_product-one_l width 2 ∙ mod-eq_of_lt two)
         ∙ mul_comm 2 (2 ^ j)
         ∙ sym (pow-suc 2 j)
 
--- the highest place of a number
+-- the highest bit of a number
 top_digit : (n x : ℕ) → x < 2 ^ suc n → 2 ^ n ≤ x → x / 2 ^ n ≡ 1
 top_digit n x lt ge =
     let split : x ≡ 1 * 2 ^ n + (x - 2 ^ n) = omega (arith, one-mul (2 ^ n)) in

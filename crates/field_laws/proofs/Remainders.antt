@@ -4,10 +4,10 @@ use Rattle.std.specs.Int.Bits.{bit_xor, xor_self, xor_zero_l, xor_comm, xor_asso
 use Rattle.std.specs.Int.{bit_at}
 use Rattle.std.proofs.Math.Nat.{zero-mul, one-mul, zero-div, mod-eq_of_lt, add-mul, div-eq_of_lt, pow-suc}
 use Rattle.std.proofs.lemmas.Nat.{pow-add, shl_below, shr_below, shr_high, mod_low, shl-shr}
-use Rattle.field_rules.specs.Elements.{carryless_below, low_terms, modulus, IsWidth, remainder}
+use Rattle.field_rules.specs.Elements.{carryless_product, low_terms, modulus, IsWidth, remainder}
 use Rattle.field_laws.specs.Rests.{IsRest}
 use Rattle.field_laws.proofs.Xors.{bit_cases, xor_swap, xor_twice, xor_same, top_cancels}
-use Rattle.field_laws.proofs.Carryless.{carryless_below-suc, carryless_below-xor_l, carryless_below-zero_l, carryless_below-bit_l, carryless_below-low, carryless_below-lt_sharp, carryless_below-comm, carryless_below-assoc}
+use Rattle.field_laws.proofs.Carryless.{carryless_product-suc, carryless_product-xor_l, carryless_product-zero_l, carryless_product-bit_l, carryless_product-low, carryless_product-lt_sharp, carryless_product-comm, carryless_product-assoc}
 
 -- ---- multiples of 2 ^ width + l
 
@@ -25,33 +25,33 @@ module _ (width l : ℕ) (low : l < 2 ^ width) where
   sum_fits = omega (arith, pow-add 2 width 1)
 
   -- h times the modulus, as its highest term's multiple and that of the terms below
-  pub multiple_split : (h : ℕ) → carryless_below (width + 1) h (2 ^ width + l) ≡ bit_xor (carryless_below width h l) (h * 2 ^ width)
+  pub multiple_split : (h : ℕ) → carryless_product (width + 1) h (2 ^ width + l) ≡ bit_xor (carryless_product width h l) (h * 2 ^ width)
   multiple_split h =
-      ap (λ z. carryless_below z h (2 ^ width + l)) (add-one width)
-      ∙ carryless_below-suc width h (2 ^ width + l)
-      ∙ ap (λ z. bit_xor z (bit_at (2 ^ width + l) width * (h * 2 ^ width))) (sym (carryless_below-low width h (2 ^ width + l)) ∙ ap (carryless_below width h) low_part)
-      ∙ ap (λ z. bit_xor (carryless_below width h l) (z * (h * 2 ^ width))) top_bit
-      ∙ ap (bit_xor (carryless_below width h l)) (one-mul (h * 2 ^ width))
+      ap (λ z. carryless_product z h (2 ^ width + l)) (add-one width)
+      ∙ carryless_product-suc width h (2 ^ width + l)
+      ∙ ap (λ z. bit_xor z (bit_at (2 ^ width + l) width * (h * 2 ^ width))) (sym (carryless_product-low width h (2 ^ width + l)) ∙ ap (carryless_product width h) low_part)
+      ∙ ap (λ z. bit_xor (carryless_product width h l) (z * (h * 2 ^ width))) top_bit
+      ∙ ap (bit_xor (carryless_product width h l)) (one-mul (h * 2 ^ width))
 
   -- a multiple below 2 ^ width is that by 0
-  small_multiple : (d q : ℕ) → q < 2 ^ d → carryless_below (width + 1) q (2 ^ width + l) < 2 ^ width → q ≡ 0
+  small_multiple : (d q : ℕ) → q < 2 ^ d → carryless_product (width + 1) q (2 ^ width + l) < 2 ^ width → q ≡ 0
   small_multiple zero q fits small = omega arith
   small_multiple (suc d) q fits small = small_multiple d q (subst (λ z. z < 2 ^ d) (sym same) part_fits) small
     where
-      part_fits : carryless_below width q l / 2 ^ width < 2 ^ d
-      part_fits = shr_below (carryless_below width q l) d width (carryless_below-lt_sharp d width q l fits)
+      part_fits : carryless_product width q l / 2 ^ width < 2 ^ d
+      part_fits = shr_below (carryless_product width q l) d width (carryless_product-lt_sharp d width q l fits)
 
-      nothing : bit_xor (carryless_below width q l / 2 ^ width) q ≡ 0
+      nothing : bit_xor (carryless_product width q l / 2 ^ width) q ≡ 0
       nothing =
-          ap (bit_xor (carryless_below width q l / 2 ^ width)) (sym (shl-shr q width))
-          ∙ sym (xor_shr (carryless_below width q l) (q * 2 ^ width) width)
+          ap (bit_xor (carryless_product width q l / 2 ^ width)) (sym (shl-shr q width))
+          ∙ sym (xor_shr (carryless_product width q l) (q * 2 ^ width) width)
           ∙ ap (λ z. z / 2 ^ width) (sym (multiple_split q))
           ∙ div-eq_of_lt small
 
-      same : q ≡ carryless_below width q l / 2 ^ width
-      same = sym (xor_same (carryless_below width q l / 2 ^ width) q nothing)
+      same : q ≡ carryless_product width q l / 2 ^ width
+      same = sym (xor_same (carryless_product width q l / 2 ^ width) q nothing)
 
-  -- the modulus, i places up, has its highest place at width + i
+  -- the modulus, shifted by i bits, has its highest bit at width + i
   shifted_top : (i : ℕ) → (2 ^ width + l) * 2 ^ i / 2 ^ (width + i) ≡ 1
   shifted_top i =
       ap (λ z. z / 2 ^ (width + i)) parts ∙ shr_high 1 (width + i) (l * 2 ^ i) (shl_below l width i low)
@@ -61,7 +61,7 @@ module _ (width l : ℕ) (low : l < 2 ^ width) where
           add-mul (2 ^ width) l (2 ^ i)
           ∙ ap (λ z. z + l * 2 ^ i) (sym (pow-add 2 width i) ∙ sym (one-mul (2 ^ (width + i))))
 
-  -- one step of long division takes the highest place away
+  -- one step of long division takes the highest bit away
   step_below : (i p : ℕ) → p < 2 ^ (width + suc i) → bit_xor p (bit_at p (width + i) * ((2 ^ width + l) * 2 ^ i)) < 2 ^ (width + i)
   step_below i p fits = top_cancels (width + i) p (bit_at p (width + i) * ((2 ^ width + l) * 2 ^ i)) (is_bit ∙ sym (taken (bit_cases p (width + i))))
     where
@@ -86,7 +86,7 @@ module _ (width l : ℕ) (low : l < 2 ^ width) where
           ∙ shifted_top i
           ∙ sym e
 
--- n has no more than n places
+-- n has no more than n bits
 lt_pow : (n : ℕ) → n < 2 ^ n
 lt_pow zero = lit< tt
 lt_pow (suc n) = omega (arith, lt_pow n, pow-suc 2 n)
@@ -101,7 +101,7 @@ modulus_fits width w = sum_fits width (low_terms width) w
 pub rest_self : (width p : ℕ) → IsRest width p p
 rest_self width p = record {
   quotient = 0;
-  divides = sym (ap (λ z. bit_xor z p) (carryless_below-zero_l (width + 1) (modulus width)) ∙ xor_zero_l p);
+  divides = sym (ap (λ z. bit_xor z p) (carryless_product-zero_l (width + 1) (modulus width)) ∙ xor_zero_l p);
 }
 
 -- a rest of a rest is a rest
@@ -110,9 +110,9 @@ rest_trans width p r s h k = record {
   quotient = bit_xor h.quotient k.quotient;
   divides =
       h.divides
-      ∙ ap (bit_xor (carryless_below (width + 1) h.quotient (modulus width))) k.divides
-      ∙ sym (xor_assoc (carryless_below (width + 1) h.quotient (modulus width)) (carryless_below (width + 1) k.quotient (modulus width)) s)
-      ∙ ap (λ z. bit_xor z s) (sym (carryless_below-xor_l (width + 1) h.quotient k.quotient (modulus width)));
+      ∙ ap (bit_xor (carryless_product (width + 1) h.quotient (modulus width))) k.divides
+      ∙ sym (xor_assoc (carryless_product (width + 1) h.quotient (modulus width)) (carryless_product (width + 1) k.quotient (modulus width)) s)
+      ∙ ap (λ z. bit_xor z s) (sym (carryless_product-xor_l (width + 1) h.quotient k.quotient (modulus width)));
 }
 
 -- the rest of an exclusive or
@@ -121,18 +121,18 @@ rest_xor width p r c d h k = record {
   quotient = bit_xor h.quotient k.quotient;
   divides =
       ap (λ z. bit_xor z c) h.divides
-      ∙ ap (bit_xor (bit_xor (carryless_below (width + 1) h.quotient (modulus width)) r)) k.divides
-      ∙ xor_swap (carryless_below (width + 1) h.quotient (modulus width)) r (carryless_below (width + 1) k.quotient (modulus width)) d
-      ∙ ap (λ z. bit_xor z (bit_xor r d)) (sym (carryless_below-xor_l (width + 1) h.quotient k.quotient (modulus width)));
+      ∙ ap (bit_xor (bit_xor (carryless_product (width + 1) h.quotient (modulus width)) r)) k.divides
+      ∙ xor_swap (carryless_product (width + 1) h.quotient (modulus width)) r (carryless_product (width + 1) k.quotient (modulus width)) d
+      ∙ ap (λ z. bit_xor z (bit_xor r d)) (sym (carryless_product-xor_l (width + 1) h.quotient k.quotient (modulus width)));
 }
 
 -- a multiple of a multiple of the modulus is one
-multiple_times : (width n q c : ℕ) → IsWidth width → c < 2 ^ n → carryless_below n (carryless_below (width + 1) q (modulus width)) c ≡ carryless_below (width + 1) (carryless_below n q c) (modulus width)
+multiple_times : (width n q c : ℕ) → IsWidth width → c < 2 ^ n → carryless_product n (carryless_product (width + 1) q (modulus width)) c ≡ carryless_product (width + 1) (carryless_product n q c) (modulus width)
 multiple_times width n q c w fits =
-    carryless_below-assoc (width + 1) n q (modulus width) c whole
-    ∙ ap (carryless_below (width + 1 + n) q) (carryless_below-comm (width + 1) n (modulus width) c whole fits)
-    ∙ ap (λ z. carryless_below z q (carryless_below (width + 1) c (modulus width))) turned
-    ∙ sym (carryless_below-assoc n (width + 1) q c (modulus width) fits)
+    carryless_product-assoc (width + 1) n q (modulus width) c whole
+    ∙ ap (carryless_product (width + 1 + n) q) (carryless_product-comm (width + 1) n (modulus width) c whole fits)
+    ∙ ap (λ z. carryless_product z q (carryless_product (width + 1) c (modulus width))) turned
+    ∙ sym (carryless_product-assoc n (width + 1) q c (modulus width) fits)
   where
     whole : modulus width < 2 ^ (width + 1)
     whole = modulus_fits width w
@@ -141,29 +141,29 @@ multiple_times width n q c w fits =
     turned = omega arith
 
 -- the rest of a multiple
-pub rest_times : (width n p r c : ℕ) → IsWidth width → c < 2 ^ n → IsRest width p r → IsRest width (carryless_below n p c) (carryless_below n r c)
+pub rest_times : (width n p r c : ℕ) → IsWidth width → c < 2 ^ n → IsRest width p r → IsRest width (carryless_product n p c) (carryless_product n r c)
 rest_times width n p r c w fits h = record {
-  quotient = carryless_below n h.quotient c;
+  quotient = carryless_product n h.quotient c;
   divides =
-      ap (λ z. carryless_below n z c) h.divides
-      ∙ carryless_below-xor_l n (carryless_below (width + 1) h.quotient (modulus width)) r c
-      ∙ ap (λ z. bit_xor z (carryless_below n r c)) (multiple_times width n h.quotient c w fits);
+      ap (λ z. carryless_product n z c) h.divides
+      ∙ carryless_product-xor_l n (carryless_product (width + 1) h.quotient (modulus width)) r c
+      ∙ ap (λ z. bit_xor z (carryless_product n r c)) (multiple_times width n h.quotient c w fits);
 }
 
 -- there is one rest below 2 ^ width
 pub rest_only : (width p r s : ℕ) → IsWidth width → IsRest width p r → IsRest width p s → r < 2 ^ width → s < 2 ^ width → r ≡ s
-rest_only width p r s w h k low high = xor_same r s (sym same ∙ ap (λ z. carryless_below (width + 1) z (modulus width)) none ∙ carryless_below-zero_l (width + 1) (modulus width))
+rest_only width p r s w h k low high = xor_same r s (sym same ∙ ap (λ z. carryless_product (width + 1) z (modulus width)) none ∙ carryless_product-zero_l (width + 1) (modulus width))
   where
-    nothing : bit_xor (carryless_below (width + 1) (bit_xor h.quotient k.quotient) (modulus width)) (bit_xor r s) ≡ 0
+    nothing : bit_xor (carryless_product (width + 1) (bit_xor h.quotient k.quotient) (modulus width)) (bit_xor r s) ≡ 0
     nothing =
-        ap (λ z. bit_xor z (bit_xor r s)) (carryless_below-xor_l (width + 1) h.quotient k.quotient (modulus width))
-        ∙ xor_swap (carryless_below (width + 1) h.quotient (modulus width)) (carryless_below (width + 1) k.quotient (modulus width)) r s
-        ∙ ap (λ z. bit_xor z (bit_xor (carryless_below (width + 1) k.quotient (modulus width)) s)) (sym h.divides)
+        ap (λ z. bit_xor z (bit_xor r s)) (carryless_product-xor_l (width + 1) h.quotient k.quotient (modulus width))
+        ∙ xor_swap (carryless_product (width + 1) h.quotient (modulus width)) (carryless_product (width + 1) k.quotient (modulus width)) r s
+        ∙ ap (λ z. bit_xor z (bit_xor (carryless_product (width + 1) k.quotient (modulus width)) s)) (sym h.divides)
         ∙ ap (bit_xor p) (sym k.divides)
         ∙ xor_self p
 
-    same : carryless_below (width + 1) (bit_xor h.quotient k.quotient) (modulus width) ≡ bit_xor r s
-    same = xor_same (carryless_below (width + 1) (bit_xor h.quotient k.quotient) (modulus width)) (bit_xor r s) nothing
+    same : carryless_product (width + 1) (bit_xor h.quotient k.quotient) (modulus width) ≡ bit_xor r s
+    same = xor_same (carryless_product (width + 1) (bit_xor h.quotient k.quotient) (modulus width)) (bit_xor r s) nothing
 
     none : bit_xor h.quotient k.quotient ≡ 0
     none =
@@ -186,7 +186,7 @@ step_rest width i p d w digit = record {
   divides =
       sym (xor_twice p (d * (modulus width * 2 ^ i)))
       ∙ xor_comm (bit_xor p (d * (modulus width * 2 ^ i))) (d * (modulus width * 2 ^ i))
-      ∙ ap (λ z. bit_xor z (bit_xor p (d * (modulus width * 2 ^ i)))) (sym (carryless_below-bit_l (width + 1) d i (modulus width) digit (modulus_fits width w)));
+      ∙ ap (λ z. bit_xor z (bit_xor p (d * (modulus width * 2 ^ i)))) (sym (carryless_product-bit_l (width + 1) d i (modulus width) digit (modulus_fits width w)));
 }
 
 -- what it leaves is a rest

@@ -40,7 +40,7 @@ module _ {A : Type 0} (ops : Ops A) (ring : IsRing ops) where
   pub same_of_sum : (a b : A) → ops.plus a b ≡ ops.zero → a ≡ b
   same_of_sum a b e = plus_cancels b a b (ring.plus_comm b a ∙ e ∙ sym (ring.plus_self b))
 
-  -- the two in the middle change places
+  -- the two in the middle are exchanged
   pub plus_swap : (a b c d : A) → ops.plus (ops.plus a b) (ops.plus c d) ≡ ops.plus (ops.plus a c) (ops.plus b d)
   plus_swap a b c d = ring.plus_assoc a b (ops.plus c d) ∙ ap (ops.plus a) middle ∙ sym (ring.plus_assoc a c (ops.plus b d))
     where

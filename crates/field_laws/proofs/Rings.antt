@@ -3,10 +3,10 @@ use Rattle.std.proofs.Common.{◌≡◌, ℕ, ◌+◌, ◌^◌, ◌<◌, sym, ap
 use Rattle.std.specs.Int.Bits.{bit_xor, xor_self, xor_zero_r, xor_comm, xor_assoc, xor_lt}
 use Rattle.std.proofs.Math.Nat.{mod-eq_of_lt}
 use Rattle.field_rules.specs.Ops.{Ops, IsRing}
-use Rattle.field_rules.specs.Elements.{carryless_below, IsWidth, product, remainder}
+use Rattle.field_rules.specs.Elements.{carryless_product, IsWidth, product, remainder}
 use Rattle.field_rules.specs.Numbered.{IsNumbered}
 use Rattle.field_laws.specs.Rests.{IsRest}
-use Rattle.field_laws.proofs.Carryless.{carryless_below-comm, carryless_below-assoc, carryless_below-lt, carryless_below-one_l, carryless_below-xor_r}
+use Rattle.field_laws.proofs.Carryless.{carryless_product-comm, carryless_product-assoc, carryless_product-lt, carryless_product-one_l, carryless_product-xor_r}
 use Rattle.field_laws.proofs.Remainders.{rest_self, rest_trans, rest_times, rest_xor, rest_only}
 use Rattle.field_laws.proofs.Products.{product-below, product_is_rest}
 
@@ -22,40 +22,40 @@ one_fits width w = above (width == 16) (width == 64) w
 -- the product of elements commutes
 pub product-comm : (width a b : ℕ) → a < 2 ^ width → b < 2 ^ width → product width a b ≡ product width b a
 unfolding product
-product-comm width a b below_a below_b = ap (remainder width width) (carryless_below-comm width width a b below_a below_b)
+product-comm width a b below_a below_b = ap (remainder width width) (carryless_product-comm width width a b below_a below_b)
 
 -- 1 is its unit
 pub product-one : (width a : ℕ) → IsWidth width → a < 2 ^ width → product width a 1 ≡ a
 product-one width a w below_a =
-    rest_only width (carryless_below width a 1) (product width a 1) a w (product_is_rest width a 1 w)
+    rest_only width (carryless_product width a 1) (product width a 1) a w (product_is_rest width a 1 w)
     (subst (λ z. IsRest width z a) (sym same) (rest_self width a))
     (product-below width a 1 w below_a (one_fits width w))
     below_a
   where
-    same : carryless_below width a 1 ≡ a
-    same = carryless_below-comm width width a 1 below_a (one_fits width w) ∙ carryless_below-one_l width a ∙ mod-eq_of_lt below_a
+    same : carryless_product width a 1 ≡ a
+    same = carryless_product-comm width width a 1 below_a (one_fits width w) ∙ carryless_product-one_l width a ∙ mod-eq_of_lt below_a
 
 -- it keeps exclusive ors
 pub product-xor : (width a b c : ℕ) → IsWidth width → a < 2 ^ width → b < 2 ^ width → c < 2 ^ width → product width a (bit_xor b c) ≡ bit_xor (product width a b) (product width a c)
 product-xor width a b c w below_a below_b below_c =
-    rest_only width (carryless_below width a (bit_xor b c)) (product width a (bit_xor b c)) (bit_xor (product width a b) (product width a c)) w
+    rest_only width (carryless_product width a (bit_xor b c)) (product width a (bit_xor b c)) (bit_xor (product width a b) (product width a c)) w
     (product_is_rest width a (bit_xor b c) w)
-    (subst (λ z. IsRest width z (bit_xor (product width a b) (product width a c))) (sym (carryless_below-xor_r width a b c))
-    (rest_xor width (carryless_below width a b) (product width a b) (carryless_below width a c) (product width a c) (product_is_rest width a b w) (product_is_rest width a c w)))
+    (subst (λ z. IsRest width z (bit_xor (product width a b) (product width a c))) (sym (carryless_product-xor_r width a b c))
+    (rest_xor width (carryless_product width a b) (product width a b) (carryless_product width a c) (product width a c) (product_is_rest width a b w) (product_is_rest width a c w)))
     (product-below width a (bit_xor b c) w below_a (xor_lt width b c below_b below_c))
     (xor_lt width (product width a b) (product width a c) (product-below width a b w below_a below_b) (product-below width a c w below_a below_c))
 
 -- a product of three is a rest of the carryless product of three
-product_of_three : (width a b c : ℕ) → IsWidth width → c < 2 ^ width → IsRest width (carryless_below width (carryless_below width a b) c) (product width (product width a b) c)
+product_of_three : (width a b c : ℕ) → IsWidth width → c < 2 ^ width → IsRest width (carryless_product width (carryless_product width a b) c) (product width (product width a b) c)
 product_of_three width a b c w below_c =
-    rest_trans width (carryless_below width (carryless_below width a b) c) (carryless_below width (product width a b) c) (product width (product width a b) c)
-    (rest_times width width (carryless_below width a b) (product width a b) c w below_c (product_is_rest width a b w))
+    rest_trans width (carryless_product width (carryless_product width a b) c) (carryless_product width (product width a b) c) (product width (product width a b) c)
+    (rest_times width width (carryless_product width a b) (product width a b) c w below_c (product_is_rest width a b w))
     (product_is_rest width (product width a b) c w)
 
 -- it associates
 pub product-assoc : (width a b c : ℕ) → IsWidth width → a < 2 ^ width → b < 2 ^ width → c < 2 ^ width → product width (product width a b) c ≡ product width a (product width b c)
 product-assoc width a b c w below_a below_b below_c =
-    rest_only width (carryless_below width (carryless_below width a b) c) (product width (product width a b) c) (product width (product width b c) a) w
+    rest_only width (carryless_product width (carryless_product width a b) c) (product width (product width a b) c) (product width (product width b c) a) w
     (product_of_three width a b c w below_c)
     (subst (λ z. IsRest width z (product width (product width b c) a)) (sym turned) (product_of_three width b c a w below_a))
     (product-below width (product width a b) c w (product-below width a b w below_a below_b) below_c)
@@ -65,10 +65,10 @@ product-assoc width a b c w below_a below_b below_c =
     below_bc : product width b c < 2 ^ width
     below_bc = product-below width b c w below_b below_c
 
-    turned : carryless_below width (carryless_below width a b) c ≡ carryless_below width (carryless_below width b c) a
+    turned : carryless_product width (carryless_product width a b) c ≡ carryless_product width (carryless_product width b c) a
     turned =
-        carryless_below-assoc width width a b c below_b
-        ∙ carryless_below-comm width (width + width) a (carryless_below width b c) below_a (carryless_below-lt width width b c below_b)
+        carryless_product-assoc width width a b c below_b
+        ∙ carryless_product-comm width (width + width) a (carryless_product width b c) below_a (carryless_product-lt width width b c below_b)
 
 -- a type that is numbered by the field's numbers is a ring
 pub ring_of_numbered : {A : Type 0} (ops : Ops A) (bits_of : A → ℕ) (width : ℕ) → IsWidth width → IsNumbered ops bits_of width → IsRing ops

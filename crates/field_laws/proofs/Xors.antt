@@ -24,7 +24,7 @@ pub xor_taken : (d x y : ℕ) → (d ≡ 0) ⊎ (d ≡ 1) → d * bit_xor x y �
 xor_taken d x y (inl e) = rw e (simp zero-mul)
 xor_taken d x y (inr e) = rw e (simp one-mul)
 
--- the two in the middle change places
+-- the two in the middle are exchanged
 pub xor_swap : (a b c d : ℕ) → bit_xor (bit_xor a b) (bit_xor c d) ≡ bit_xor (bit_xor a c) (bit_xor b d)
 xor_swap a b c d = xor_assoc a b (bit_xor c d) ∙ ap (bit_xor a) middle ∙ sym (xor_assoc a c (bit_xor b d))
   where
@@ -39,22 +39,22 @@ xor_twice a b = xor_assoc a b b ∙ ap (bit_xor a) (xor_self b) ∙ xor_zero_r a
 pub xor_same : (a b : ℕ) → bit_xor a b ≡ 0 → a ≡ b
 xor_same a b e = sym (xor_twice a b) ∙ ap (λ z. bit_xor z b) e ∙ xor_zero_l b
 
--- a number by the places below k and those from k on
+-- a number by the bits below k and those from k on
 pub xor_split : (n k : ℕ) → bit_xor (n / 2 ^ k * 2 ^ k) (n % 2 ^ k) ≡ n
 xor_split n k = xor_shifted (n / 2 ^ k) k (n % 2 ^ k) (mod-lt n (pow_pos k)) ∙ shr_split n k
 
--- the places below k + 1 are those below k, and the place k
+-- the bits below k + 1 are those below k, and bit k
 pub xor_next : (n k : ℕ) → n % 2 ^ suc k ≡ bit_xor (bit_at n k * 2 ^ k) (n % 2 ^ k)
 xor_next n k =
     ap (λ z. n % 2 ^ z) (sym (one-add k))
     ∙ mod-pow-add n 1 k
     ∙ sym (xor_shifted (bit_at n k) k (n % 2 ^ k) (mod-lt n (pow_pos k)))
 
--- what has no place from k on is below 2 ^ k
+-- what has no bit from k on is below 2 ^ k
 pub below_of_shr : (n k : ℕ) → n / 2 ^ k ≡ 0 → n < 2 ^ k
 below_of_shr n k e = omega (arith, shr_split n k, mod-lt n (pow_pos k), ap (λ z. z * 2 ^ k) e, zero-mul (2 ^ k))
 
--- two numbers with the same places from k on differ below 2 ^ k
+-- two numbers with the same bits from k on differ below 2 ^ k
 pub top_cancels : (k x y : ℕ) → x / 2 ^ k ≡ y / 2 ^ k → bit_xor x y < 2 ^ k
 top_cancels k x y e =
     below_of_shr (bit_xor x y) k (xor_shr x y k ∙ ap (λ z. bit_xor z (y / 2 ^ k)) e ∙ xor_self (y / 2 ^ k))

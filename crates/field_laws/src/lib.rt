@@ -6,7 +6,7 @@ ghost use Rattle.field_rules.specs.Ops.{Ops, IsRing};
 ghost use Rattle.field_rules.specs.Fields.{IsField};
 ghost use Rattle.field_rules.specs.Elements.{IsWidth, IsProduct, product};
 ghost use Rattle.field_rules.specs.Numbered.{IsNumbered};
-ghost use Rattle.field_laws.specs.Certified.{Certified};
+ghost use Rattle.field_laws.specs.Certified.{Certificate};
 
 /// Two elements have one product at each width, which is what long division by the modulus leaves. It does nothing
 /// when it runs: its contract is the theorem.
@@ -19,6 +19,6 @@ pub fn one_product()
 /// `Certified`, as 32 does. It does nothing when it runs: its contract is the theorem.
 pub fn certified_widths_are_fields<A>()
     ensures ring { (ops : Ops A) (bits_of : A → ℕ) (width : ℕ) → IsWidth width → IsNumbered ops bits_of width → IsRing ops }
-    ensures field { (ops : Ops A) (bits_of : A → ℕ) (width : ℕ) → Certified width → IsNumbered ops bits_of width → IsField ops width }
-    ensures certified { Certified 32 }
+    ensures field { (ops : Ops A) (bits_of : A → ℕ) (width : ℕ) → Certificate width → IsNumbered ops bits_of width → IsField ops width }
+    ensures certified { Certificate 32 }
 {}

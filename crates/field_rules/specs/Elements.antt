@@ -3,11 +3,11 @@ use Rattle.std.specs.Prelude.{◌≡◌, ℕ, zero, suc, ◌+◌, ◌*◌, ◌^�
 use Rattle.std.specs.Int.{bit_at}
 use Rattle.field_rules.specs.Ops.{Ops}
 
--- the exclusive or of a * 2 ^ i over the places i below n at which b has a 1: where b is below 2 ^ n, the product of
+-- the exclusive or of a * 2 ^ i over the bits i below n at which b has a 1: where b is below 2 ^ n, the product of
 -- the two polynomials, which is the product without carries
-unfoldable pub carryless_below : ℕ → ℕ → ℕ → ℕ
-carryless_below zero a b = 0
-carryless_below (suc n) a b = bit_xor (carryless_below n a b) (bit_at b n * (a * 2 ^ n))
+unfoldable pub carryless_product : ℕ → ℕ → ℕ → ℕ
+carryless_product zero a b = 0
+carryless_product (suc n) a b = bit_xor (carryless_product n a b) (bit_at b n * (a * 2 ^ n))
 
 -- the terms of the modulus below its highest: x ^ 7 + x ^ 3 + x ^ 2 + 1 at 32 bits, x ^ 5 + x ^ 3 + x + 1 at 16 and
 -- x ^ 4 + x ^ 3 + x + 1 at 64. These are libminisketch's fields of these sizes
@@ -27,7 +27,7 @@ IsWidth width = low_terms width < 2 ^ width
 pub record IsProduct (width a b r : ℕ) : Type 0 where
   pub below : r < 2 ^ width
   pub quotient : ℕ
-  pub divides : carryless_below width a b ≡ bit_xor (carryless_below (width + 1) quotient (modulus width)) r
+  pub divides : carryless_product width a b ≡ bit_xor (carryless_product (width + 1) quotient (modulus width)) r
 
 -- what long division by the modulus leaves of p, which is below 2 ^ (width + n)
 unfoldable pub remainder : ℕ → ℕ → ℕ → ℕ
@@ -36,7 +36,7 @@ remainder width (suc i) p = remainder width i (bit_xor p (bit_at p (width + i) *
 
 -- the product of two elements, by long division
 unfoldable pub product : ℕ → ℕ → ℕ → ℕ
-product width a b = remainder width width (carryless_below width a b)
+product width a b = remainder width width (carryless_product width a b)
 
 -- the field of 2 ^ width elements over numbers
 abbrev pub numbers : ℕ → Ops ℕ

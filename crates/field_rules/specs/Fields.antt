@@ -21,20 +21,20 @@ pub record IsField {A : Type 0} (ops : Ops A) (n : ℕ) : Type 0 where
   pub trace_is_bit : (a : A) → (trace_of ops n a ≡ ops.zero) ⊎ (trace_of ops n a ≡ ops.one)
 
 -- a power of x below x ^ n whose products with a and with b have different traces
-pub record IsToldApart {A : Type 0} (ops : Ops A) (bits_of : A → ℕ) (n : ℕ) (a b : A) : Type 0 where
-  pub place : ℕ
-  pub below : place < n
+pub record IsSeparatedByTrace {A : Type 0} (ops : Ops A) (bits_of : A → ℕ) (n : ℕ) (a b : A) : Type 0 where
+  pub exponent : ℕ
+  pub below : exponent < n
   pub by : A
-  pub bits : bits_of by ≡ 2 ^ place
+  pub bits : bits_of by ≡ 2 ^ exponent
   pub differ : trace_of ops n (ops.times by a) ≢ trace_of ops n (ops.times by b)
 
--- k times the item of xs at each place, added to the item of acc at that place
+-- k times the item of xs at each index, added to the item of acc at that index
 unfoldable pub with_multiple : {A : Type 0} → Ops A → List A → A → List A → List A
 with_multiple ops [] k xs = []
 with_multiple ops (a ∷ acc) k [] = a ∷ acc
 with_multiple ops (a ∷ acc) k (x ∷ xs) = ops.plus a (ops.times k x) ∷ with_multiple ops acc k xs
 
--- the sum of the products of the items of xs and ys at the same place
+-- the sum of the products of the items of xs and ys at the same index
 unfoldable pub dot_of : {A : Type 0} → Ops A → List A → List A → A
 dot_of ops [] ys = ops.zero
 dot_of ops (x ∷ xs) [] = ops.zero

@@ -23,7 +23,7 @@ unfoldable pub power : {A : Type 0} → Ops A → A → ℕ → A
 power ops e zero = ops.one
 power ops e (suc k) = ops.times (power ops e k) e
 
--- e ^ (2i + 1) added to each item at place i, where the first of them stands at place i
+-- e ^ (2i + 1) added to each item at index i, where the first of them stands at index i
 unfoldable pub with_odd_powers : {A : Type 0} → Ops A → A → ℕ → List A → List A
 with_odd_powers ops e i [] = []
 with_odd_powers ops e i (a ∷ rest) = ops.plus a (power ops e (2 * i + 1)) ∷ with_odd_powers ops e (i + 1) rest

@@ -23,8 +23,8 @@ unfoldable pub salting_tag : List ℕ
 salting_tag = sha256 (codes "Tx Relay Salting")
 
 -- the tagged hash of two salts (BIP 330, sendtxrcncl)
-unfoldable pub salted : ℕ → ℕ → List ℕ
-salted low high = sha256 (salting_tag ++ salting_tag ++ to_le_bytes w64 low ++ to_le_bytes w64 high)
+unfoldable pub salted_hash : ℕ → ℕ → List ℕ
+salted_hash low high = sha256 (salting_tag ++ salting_tag ++ to_le_bytes w64 low ++ to_le_bytes w64 high)
 
 -- a key from the first 16 bytes of a hash, the lowest byte of each word first
 unfoldable pub key_in : List ℕ → KeyPair
@@ -32,7 +32,7 @@ key_in bytes = record { k0 = from_le_bytes w64 (take 8 bytes); k1 = from_le_byte
 
 -- the key of the salts of both nodes, in either order: the smaller one is hashed first
 unfoldable pub keys_of : ℕ → ℕ → KeyPair
-keys_of a b = key_in (if nat_le a b then salted a b else salted b a)
+keys_of a b = key_in (if nat_le a b then salted_hash a b else salted_hash b a)
 
 -- the short id of a transaction under a key. It has 32 bits and is never 0. That it is taken of the 32 bytes of the id
 -- as they are stored is this project's own

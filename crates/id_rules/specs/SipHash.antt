@@ -11,17 +11,17 @@ pub record SipState : Type 0 where
   pub v3 : ℕ
 
 -- the sum of two words, without the carry
-abbrev pub add64 : ℕ → ℕ → ℕ
-add64 x y = (x + y) % 2 ^ 64
+abbrev pub word_sum : ℕ → ℕ → ℕ
+word_sum x y = (x + y) % 2 ^ 64
 
 -- half of a round: v1 is added to v0 and v3 to v2; v1 and v3 are turned left by r and by t bits, and the sums beside them
--- are added to them without carries; v0 is turned by 32 bits, and changes places with v2
+-- are added to them without carries; v0 is turned by 32 bits, and is exchanged with v2
 unfoldable pub half_round : ℕ → ℕ → SipState → SipState
 half_round r t s = record {
-  v0 = add64 s.v2 s.v3;
-  v1 = bit_xor (rotate_left w64 s.v1 r) (add64 s.v0 s.v1);
-  v2 = rotate_left w64 (add64 s.v0 s.v1) 32;
-  v3 = bit_xor (rotate_left w64 s.v3 t) (add64 s.v2 s.v3);
+  v0 = word_sum s.v2 s.v3;
+  v1 = bit_xor (rotate_left w64 s.v1 r) (word_sum s.v0 s.v1);
+  v2 = rotate_left w64 (word_sum s.v0 s.v1) 32;
+  v3 = bit_xor (rotate_left w64 s.v3 t) (word_sum s.v2 s.v3);
 }
 
 -- a round
@@ -38,8 +38,8 @@ sip_start k0 k1 = record {
 }
 
 -- one word of the message more
-unfoldable pub absorbed : SipState → ℕ → SipState
-absorbed s m = let t = sip_round (sip_round (record s { v3 = bit_xor s.v3 m })) in record t { v0 = bit_xor t.v0 m }
+unfoldable pub after_word : SipState → ℕ → SipState
+after_word s m = let t = sip_round (sip_round (record s { v3 = bit_xor s.v3 m })) in record t { v0 = bit_xor t.v0 m }
 
 -- the words of a message of n bytes: 8 bytes each, the lowest first. The last word has the bytes left, fewer than 8,
 -- and n modulo 256 as its highest byte
@@ -48,11 +48,11 @@ words_of n (a ∷ b ∷ c ∷ d ∷ e ∷ f ∷ g ∷ h ∷ rest) = from_le_byte
 words_of n fewer = (from_le_bytes w64 fewer + n % 256 * 2 ^ 56) ∷ []
 
 -- the answer of a state that has taken the whole message
-unfoldable pub finished : SipState → ℕ
-finished s =
+unfoldable pub sip_digest : SipState → ℕ
+sip_digest s =
     let t = sip_round (sip_round (sip_round (sip_round (record s { v2 = bit_xor s.v2 0xff }))))
     in bit_xor (bit_xor t.v0 t.v1) (bit_xor t.v2 t.v3)
 
 -- SipHash-2-4 of bytes under a key
 unfoldable pub sip24 : ℕ → ℕ → List ℕ → ℕ
-sip24 k0 k1 bytes = finished (fold absorbed (sip_start k0 k1) (words_of (length bytes) bytes))
+sip24 k0 k1 bytes = sip_digest (fold after_word (sip_start k0 k1) (words_of (length bytes) bytes))

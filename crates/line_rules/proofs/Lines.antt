@@ -6,7 +6,7 @@ use Rattle.std.proofs.lemmas.List.{append-nil}
 use Rattle.std.proofs.lemmas.List.Elements.{All-cons, All-head, All-nil, All-tail}
 use Rattle.hex.specs.Hex.{IsBytes, encode_lower, is_hex_digit}
 use Rattle.hex.proofs.HexLemmas.{decode_of-encode_lower, decode_of-ok}
-use Rattle.line_rules.specs.Lines.{line, lines, lines_of, numbered}
+use Rattle.line_rules.specs.Lines.{line, lines, lines_of, numbered_lines}
 
 -- neither LF nor CR
 abbrev pub IsPlain : ℕ → Type 0
@@ -40,22 +40,22 @@ lines-line (b ∷ text) rest plain =
     rw (ne_eqb b 10 first.0, ne_eqb b 13 first.1, lines-line text rest (All-tail IsPlain b text plain)) refl
 
 -- a line that isn't empty has a number
-pub numbered-line : (n : ℕ) (text : List ℕ) (ls : List (List ℕ)) → 0 < length text → numbered n (text ∷ ls) ≡ record { number = n; bytes = text } ∷ numbered (n + 1) ls
-unfolding numbered
-numbered-line n [] ls some = absurd (omega arith)
-numbered-line n (b ∷ text) ls some = refl
+pub numbered_lines-line : (n : ℕ) (text : List ℕ) (ls : List (List ℕ)) → 0 < length text → numbered_lines n (text ∷ ls) ≡ record { number = n; bytes = text } ∷ numbered_lines (n + 1) ls
+unfolding numbered_lines
+numbered_lines-line n [] ls some = absurd (omega arith)
+numbered_lines-line n (b ∷ text) ls some = refl
 
 -- one such line is all lines
 pub lines_of-line : (text : List ℕ) → All IsPlain text → 0 < length text → lines_of (line text) ≡ record { number = 1; bytes = text } ∷ []
-unfolding lines numbered
+unfolding lines numbered_lines
 lines_of-line text plain some =
-    ap (numbered 1) (ap lines (sym (append-nil (line text))) ∙ lines-line text [] plain) ∙ numbered-line 1 text [] some
+    ap (numbered_lines 1) (ap lines (sym (append-nil (line text))) ∙ lines-line text [] plain) ∙ numbered_lines-line 1 text [] some
 
 -- and so are two
 pub lines_of-two : (first second : List ℕ) → All IsPlain first → All IsPlain second → 0 < length first → 0 < length second
     → lines_of (line first ++ line second) ≡ record { number = 1; bytes = first } ∷ record { number = 2; bytes = second } ∷ []
-unfolding lines numbered
+unfolding lines numbered_lines
 lines_of-two first second first_plain second_plain first_some second_some =
-    ap (numbered 1) (lines-line first (line second) first_plain ∙ ap (λ ls. first ∷ ls) (ap lines (sym (append-nil (line second))) ∙ lines-line second [] second_plain))
-    ∙ numbered-line 1 first (second ∷ []) first_some
-    ∙ ap (λ ls. record { number = 1; bytes = first } ∷ ls) (numbered-line 2 second [] second_some)
+    ap (numbered_lines 1) (lines-line first (line second) first_plain ∙ ap (λ ls. first ∷ ls) (ap lines (sym (append-nil (line second))) ∙ lines-line second [] second_plain))
+    ∙ numbered_lines-line 1 first (second ∷ []) first_some
+    ∙ ap (λ ls. record { number = 1; bytes = first } ∷ ls) (numbered_lines-line 2 second [] second_some)

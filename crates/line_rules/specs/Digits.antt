@@ -18,13 +18,13 @@ abbrev pub kind_of : FromHexError → Kind
 kind_of hex.OddLength = kind.OddDigits
 kind_of other = kind.BadDigit
 
-abbrev pub kinded : Result (List ℕ) FromHexError → Result (List ℕ) Kind
-kinded (Ok bytes) = Ok bytes
-kinded (Err e) = Err (kind_of e)
+abbrev pub with_kind : Result (List ℕ) FromHexError → Result (List ℕ) Kind
+with_kind (Ok bytes) = Ok bytes
+with_kind (Err e) = Err (kind_of e)
 
 -- the bytes that digits of either case spell, two digits each
 abbrev pub bytes_in : List ℕ → Result (List ℕ) Kind
-bytes_in text = kinded (decode_of text)
+bytes_in text = with_kind (decode_of text)
 
 -- the 8 digits of a number of 32 bits, the most significant first, in lower case
 abbrev pub eight_digits : ℕ → List ℕ

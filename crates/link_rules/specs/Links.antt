@@ -4,9 +4,9 @@ use Rattle.std.specs.List.{concat}
 
 -- a call that makes a link, with its address
 pub data Call : Type 0 where
-  Connects : (address : List ℕ) → Call
-  Listens : (address : List ℕ) → Call
-  Accepts : Call
+  ConnectCall : (address : List ℕ) → Call
+  ListenCall : (address : List ℕ) → Call
+  AcceptCall : Call
 
 -- a piece that was received, and how many bytes had been sent before it
 pub record Piece : Type 0 where
@@ -33,5 +33,5 @@ abbrev pub pieces_of : Link → List (List ℕ)
 pieces_of link = bytes_of_pieces link.pieces
 
 -- all bytes received
-abbrev pub received_over : Link → List ℕ
-received_over link = concat (pieces_of link)
+abbrev pub received_bytes : Link → List ℕ
+received_bytes link = concat (pieces_of link)

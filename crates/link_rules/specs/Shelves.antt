@@ -4,8 +4,8 @@ use Rattle.std.specs.declared.option.Option.{Option}
 
 -- a call, with the name that it is for
 pub data ShelfCall : Type 0 where
-  Reads : (name : List ℕ) → ShelfCall
-  Saves : (name : List ℕ) → ShelfCall
+  ReadCall : (name : List ℕ) → ShelfCall
+  SaveCall : (name : List ℕ) → ShelfCall
 
 pub record Content : Type 0 where
   pub name : List ℕ
@@ -20,8 +20,8 @@ abbrev pub is_named : List ℕ → Content → Bool
 is_named name c = bytes_eq c.name name
 
 -- the bytes under a name, where the shelf has it
-abbrev pub content : Shelf → List ℕ → Option (List ℕ)
-content shelf name = option_map (λ c. c.bytes) (find (is_named name) shelf.contents)
+abbrev pub content_of : Shelf → List ℕ → Option (List ℕ)
+content_of shelf name = option_map (λ c. c.bytes) (find (is_named name) shelf.contents)
 
 -- what is under all other names
 abbrev pub others : Shelf → List ℕ → List Content

@@ -3,7 +3,7 @@ use Rattle.std.proofs.Common.{◌≤◌, Bool, List, [], ◌∷◌, length, filt
 use Rattle.std.specs.List.{AllByRecursion}
 use Rattle.std.proofs.lemmas.List.{length-map}
 use Rattle.id_rules.specs.Ids.{KeyPair}
-use Rattle.pool_rules.specs.Pools.{Held, IsHeld, IsPool, pool_ids}
+use Rattle.pool_rules.specs.Pools.{Transaction, IsTransaction, IsPool, pool_ids}
 use Rattle.pool_rules.specs.Snapshots.{Member, ids_of}
 use Rattle.pool_rules.specs.declared.limits.TheConstants.{POOL_LIMIT}
 use Rattle.node_rules.specs.Invariant.{IsMember, AreMembers}
@@ -20,18 +20,18 @@ pub record IsAnnounceable (ms : List Member) : Type 0 where
   pub ids : AllByRecursion (λ m. IsId m.id) ms
 
 -- members are no more than a pool's transactions: their ids are in it, each once
-pub members_fit : (keys : KeyPair) (pool : List Held) (ms : List Member) → length pool ≤ POOL_LIMIT → AreMembers keys pool ms → length ms ≤ POOL_LIMIT
+pub members_fit : (keys : KeyPair) (pool : List Transaction) (ms : List Member) → length pool ≤ POOL_LIMIT → AreMembers keys pool ms → length ms ≤ POOL_LIMIT
 members_fit keys pool ms room h = let le = ids_within (ids_of ms) pool h.once (pooled_ids keys pool ms h.each) in let long = length-map ms (λ m. m.id) in omega (arith, le, long, room)
 
-pub pool_fits : (pool : List Held) → AllByRecursion IsHeld pool → AllByRecursion IsId (pool_ids pool)
+pub pool_fits : (pool : List Transaction) → AllByRecursion IsTransaction pool → AllByRecursion IsId (pool_ids pool)
 pool_fits [] h = tt
 pool_fits (t ∷ ts) h = (subst IsId (sym h.0.named) (wtxid_bytes t.bytes), pool_fits ts h.1)
 
-member_ids : (keys : KeyPair) (pool : List Held) (ms : List Member) → AllByRecursion IsHeld pool → AllByRecursion (IsMember keys pool) ms → AllByRecursion (λ m. IsId m.id) ms
+member_ids : (keys : KeyPair) (pool : List Transaction) (ms : List Member) → AllByRecursion IsTransaction pool → AllByRecursion (IsMember keys pool) ms → AllByRecursion (λ m. IsId m.id) ms
 member_ids keys pool [] each h = tt
 member_ids keys pool (m ∷ ms) each h = (all_listed IsId (pool_ids pool) (pool_fits pool each) m.id (sym (pool_listed pool m.id) ∙ h.0.pooled), member_ids keys pool ms each h.1)
 
-pub members_announce : (keys : KeyPair) (pool : List Held) (ms : List Member) → IsPool pool → AreMembers keys pool ms → IsAnnounceable ms
+pub members_announce : (keys : KeyPair) (pool : List Transaction) (ms : List Member) → IsPool pool → AreMembers keys pool ms → IsAnnounceable ms
 members_announce keys pool ms p h = record { few = members_fit keys pool ms p.count h; ids = member_ids keys pool ms p.each h.each }
 
 -- some of them

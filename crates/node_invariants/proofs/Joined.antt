@@ -8,31 +8,31 @@ use Rattle.std.proofs.lemmas.List.Folds.{list_all-append}
 use Rattle.id_rules.specs.Bytes.{are_bytes, is_tx_length}
 use Rattle.wire_rules.specs.Limits.{IsMessage}
 use Rattle.wire_rules.specs.Reading.{message_of}
-use Rattle.wire_rules.specs.Stream.{Front, Partial, Whole, Faulty, front_of, later}
+use Rattle.wire_rules.specs.Stream.{Front, PartialFrame, WholeFrame, FaultyFrame, front_of, later_offset}
 use Rattle.wire_rules.specs.declared.faults.PayloadFault.{PayloadFault}
 use Rattle.wire_rules.specs.declared.frame.Frame.{Frame}
 use Rattle.wire_rules.specs.declared.message.Message.{Message}
 use Rattle.wire_laws.proofs.Said.{message_of-said}
 use Rattle.wire_laws.proofs.Parts.{bytes_split}
 use Rattle.stream_laws.proofs.Found.{front-found}
-use Rattle.stream_laws.proofs.Offsets.{later-low}
-use Rattle.pool_rules.specs.Pools.{Held, IsHeld, IsPool, held}
-use Rattle.node_rules.specs.Additions.{adds}
+use Rattle.stream_laws.proofs.Offsets.{later_offset-low}
+use Rattle.pool_rules.specs.Pools.{Transaction, IsTransaction, IsPool, transaction_of}
+use Rattle.node_rules.specs.Additions.{on_addition}
 use Rattle.node_rules.specs.Invariant.{IsConfig, IsNode, IsStore, IsSetUp, IsConversing, IsBounded, IsReport}
 use Rattle.node_rules.specs.State.{Inbox, NodeState, opening_state}
-use Rattle.node_rules.specs.Steps.{takes, takes_all, goes_on, at_message, at_front, handles, handled, dropped, with_piece, receives_in, receives, read_past, begins}
-use Rattle.node_rules.specs.Turns.{Turn, passed, refused}
+use Rattle.node_rules.specs.Steps.{on_message, on_messages, next_unless_ended, at_message, at_front, on_frames, on_unread, without_unread_by, with_piece, on_piece_by, on_piece, after_frame, on_start}
+use Rattle.node_rules.specs.Turns.{Turn, unchanged, refusal}
 use Rattle.node_rules.specs.declared.config.Config.{Config}
 use Rattle.node_rules.specs.declared.end.End.{End}
 use Rattle.node_rules.specs.declared.end.End.TheVariants as end
-use Rattle.node_invariants.proofs.Bounds.{takes-bounded, adds-bounded, begins-bounded, opening-bounded}
-use Rattle.node_invariants.proofs.Conversing.{takes-conversing, adds-conversing, begins-conversing, opening-conversing, beside-conversing}
+use Rattle.node_invariants.proofs.Bounds.{on_message-bounded, on_addition-bounded, on_start-bounded, opening-bounded}
+use Rattle.node_invariants.proofs.Conversing.{on_message-conversing, on_addition-conversing, on_start-conversing, opening-conversing, beside-conversing}
 use Rattle.node_invariants.proofs.Lists.{all_append}
-use Rattle.node_invariants.proofs.Reports.{takes-reports, adds-reports, begins-reports}
-use Rattle.node_invariants.proofs.Rows.{EachRow, takes-rows, adds-rows, begins-rows}
-use Rattle.node_invariants.proofs.Sending.{takes-sendable}
-use Rattle.node_invariants.proofs.Sets.{takes-setup, adds-setup, begins-setup, opening-setup}
-use Rattle.node_invariants.proofs.Stores.{takes-store, adds-store, begins-store, opening-store}
+use Rattle.node_invariants.proofs.Reports.{on_message-reports, on_addition-reports, on_start-reports}
+use Rattle.node_invariants.proofs.Rows.{EachRow, on_message-rows, on_addition-rows, on_start-rows}
+use Rattle.node_invariants.proofs.Sending.{on_message-sendable}
+use Rattle.node_invariants.proofs.Sets.{on_message-setup, on_addition-setup, on_start-setup, opening-setup}
+use Rattle.node_invariants.proofs.Stores.{on_message-store, on_addition-store, on_start-store, opening-store}
 
 -- ---- configuration and inbox
 
@@ -81,30 +81,30 @@ module _ (s : NodeState) (h : IsNode s) where
     conversing = conversing;
     bounded = bounded;
     reports = reports;
-    place = subst (λ (i : Inbox). i.place < 2 ^ 64) (sym side.inbox) h.place;
+    place = subst (λ (i : Inbox). i.offset < 2 ^ 64) (sym side.inbox) h.place;
     unread = subst (λ (i : Inbox). IsTrue (are_bytes i.unread)) (sym side.inbox) h.unread;
   }
 
-  pub takes-node : (m : Message) → IsMessage m → IsNode (takes s m).state
-  takes-node m sound =
-      node_from (takes s m) (takes-rows s (HasSameSide s) (side_rows s) m sound) (takes-store s m h.store sound) (takes-setup s m h.setup h.conversing h.store.pool.distinct sound) (takes-conversing s m h.conversing sound)
-      (takes-bounded s m h.config h.conversing h.bounded sound) (takes-reports s h.setup h.bounded h.reports m sound)
+  pub on_message-node : (m : Message) → IsMessage m → IsNode (on_message s m).state
+  on_message-node m sound =
+      node_from (on_message s m) (on_message-rows s (HasSameSide s) (side_rows s) m sound) (on_message-store s m h.store sound) (on_message-setup s m h.setup h.conversing h.store.pool.distinct sound) (on_message-conversing s m h.conversing sound)
+      (on_message-bounded s m h.config h.conversing h.bounded sound) (on_message-reports s h.setup h.bounded h.reports m sound)
 
-  pub adds-held : (tx : List ℕ) → IsHeld (held tx) → IsNode (adds s tx).turn.state
-  adds-held tx sound =
-      node_from (adds s tx).turn (adds-rows s (HasSameSide s) (side_rows s) tx sound) (adds-store s tx h.store sound) (adds-setup s tx h.setup h.conversing h.store.pool.distinct sound) (adds-conversing s tx h.conversing sound)
-      (adds-bounded s tx h.config h.conversing h.bounded sound) (adds-reports s h.setup h.bounded h.reports tx sound)
+  pub on_addition-transaction_of : (tx : List ℕ) → IsTransaction (transaction_of tx) → IsNode (on_addition s tx).turn.state
+  on_addition-transaction_of tx sound =
+      node_from (on_addition s tx).turn (on_addition-rows s (HasSameSide s) (side_rows s) tx sound) (on_addition-store s tx h.store sound) (on_addition-setup s tx h.setup h.conversing h.store.pool.distinct sound) (on_addition-conversing s tx h.conversing sound)
+      (on_addition-bounded s tx h.config h.conversing h.bounded sound) (on_addition-reports s h.setup h.bounded h.reports tx sound)
 
-  pub adds-node : (tx : List ℕ) → IsTrue (is_tx_length (length tx) && are_bytes tx) → IsNode (adds s tx).turn.state
-  adds-node tx sound = let parts = and_parts (is_tx_length (length tx)) (are_bytes tx) sound in adds-held tx (record { named = refl; sized = parts.0; bytes = parts.1 })
+  pub on_addition-node : (tx : List ℕ) → IsTrue (is_tx_length (length tx) && are_bytes tx) → IsNode (on_addition s tx).turn.state
+  on_addition-node tx sound = let parts = and_parts (is_tx_length (length tx)) (are_bytes tx) sound in on_addition-transaction_of tx (record { named = refl; sized = parts.0; bytes = parts.1 })
 
-  pub begins-node : IsNode (begins s).turn.state
-  begins-node =
-      node_from (begins s).turn (begins-rows s (HasSameSide s) (side_rows s)) (begins-store s h.store) (begins-setup s h.setup h.conversing h.store.pool.distinct) (begins-conversing s h.conversing) (begins-bounded s h.config h.conversing h.bounded)
-      (begins-reports s h.setup h.bounded h.reports)
+  pub on_start-node : IsNode (on_start s).turn.state
+  on_start-node =
+      node_from (on_start s).turn (on_start-rows s (HasSameSide s) (side_rows s)) (on_start-store s h.store) (on_start-setup s h.setup h.conversing h.store.pool.distinct) (on_start-conversing s h.conversing) (on_start-bounded s h.config h.conversing h.bounded)
+      (on_start-reports s h.setup h.bounded h.reports)
 
   -- with another inbox, and ended or not
-  beside : (i : Inbox) (ended : Option End) → i.place < 2 ^ 64 → are_bytes i.unread ≡ true → IsNode (record s { inbox = i; ended = ended })
+  beside : (i : Inbox) (ended : Option End) → i.offset < 2 ^ 64 → are_bytes i.unread ≡ true → IsNode (record s { inbox = i; ended = ended })
   beside i ended place unread = record {
     config = h.config;
     store = record {
@@ -121,7 +121,7 @@ module _ (s : NodeState) (h : IsNode s) where
     unread = unread;
   }
 
-pub opening-node : (c : Config) (pool : List Held) → IsConfig c → IsPool pool → IsNode (opening_state c pool)
+pub opening-node : (c : Config) (pool : List Transaction) → IsConfig c → IsPool pool → IsNode (opening_state c pool)
 opening-node c pool config is = record {
   config = config;
   store = opening-store c pool is;
@@ -140,70 +140,70 @@ pub record IsSoundTurn (t : Turn) : Type 0 where
   pub node : IsNode t.state
   pub sendable : AllByRecursion IsMessage t.out
 
-passed-sound : (s : NodeState) → IsNode s → IsSoundTurn (passed s)
-passed-sound s h = record { node = h; sendable = tt }
+unchanged-sound : (s : NodeState) → IsNode s → IsSoundTurn (unchanged s)
+unchanged-sound s h = record { node = h; sendable = tt }
 
-refused-sound : (s : NodeState) (e : End) → IsNode s → IsSoundTurn (refused s e)
-refused-sound s e h = record { node = beside s h s.inbox (Some e) h.place h.unread; sendable = tt }
+refusal-sound : (s : NodeState) (e : End) → IsNode s → IsSoundTurn (refusal s e)
+refusal-sound s e h = record { node = beside s h s.inbox (Some e) h.place h.unread; sendable = tt }
 
-takes-sound : (s : NodeState) (m : Message) → IsNode s → IsMessage m → IsSoundTurn (takes s m)
-takes-sound s m h sound = record { node = takes-node s h m sound; sendable = takes-sendable s h m sound }
+on_message-sound : (s : NodeState) (m : Message) → IsNode s → IsMessage m → IsSoundTurn (on_message s m)
+on_message-sound s m h sound = record { node = on_message-node s h m sound; sendable = on_message-sendable s h m sound }
 
 -- what may follow a turn
 abbrev IsSoundNext : (NodeState → Turn) → Type 0
 IsSoundNext next = (u : NodeState) → IsNode u → IsSoundTurn (next u)
 
-goes_on-sound : (e : Option End) (t : Turn) (next : NodeState → Turn) → IsSoundTurn t → IsSoundNext next → IsSoundTurn (goes_on e t next)
-unfolding goes_on
-goes_on-sound (Some e) t next h f = h
-goes_on-sound None t next h f = let behind = f t.state h.node in record { node = behind.node; sendable = all_append IsMessage t.out (next t.state).out h.sendable behind.sendable }
+next_unless_ended-sound : (e : Option End) (t : Turn) (next : NodeState → Turn) → IsSoundTurn t → IsSoundNext next → IsSoundTurn (next_unless_ended e t next)
+unfolding next_unless_ended
+next_unless_ended-sound (Some e) t next h f = h
+next_unless_ended-sound None t next h f = let behind = f t.state h.node in record { node = behind.node; sendable = all_append IsMessage t.out (next t.state).out h.sendable behind.sendable }
 
-pub takes_all-sound : (s : NodeState) (ms : List Message) → IsNode s → AllByRecursion IsMessage ms → IsSoundTurn (takes_all s ms)
-unfolding takes_all
-takes_all-sound s [] h sound = passed-sound s h
-takes_all-sound s (m ∷ ms) h sound = goes_on-sound (takes s m).state.ended (takes s m) (λ u. takes_all u ms) (takes-sound s m h sound.0) (λ u k. takes_all-sound u ms k sound.1)
+pub on_messages-sound : (s : NodeState) (ms : List Message) → IsNode s → AllByRecursion IsMessage ms → IsSoundTurn (on_messages s ms)
+unfolding on_messages
+on_messages-sound s [] h sound = unchanged-sound s h
+on_messages-sound s (m ∷ ms) h sound = next_unless_ended-sound (on_message s m).state.ended (on_message s m) (λ u. on_messages u ms) (on_message-sound s m h sound.0) (λ u k. on_messages-sound u ms k sound.1)
 
 at_message-sound : (r : Result Message PayloadFault) (s : NodeState) (next : NodeState → Turn) → ((m : Message) → r ≡ Ok m → IsMessage m) → IsNode s → IsSoundNext next → IsSoundTurn (at_message r s next)
 unfolding at_message
-at_message-sound (Ok m) s next sent h f = goes_on-sound (takes s m).state.ended (takes s m) next (takes-sound s m h (sent m refl)) f
-at_message-sound (Err fault) s next sent h f = refused-sound s (end.Payload fault) h
+at_message-sound (Ok m) s next sent h f = next_unless_ended-sound (on_message s m).state.ended (on_message s m) next (on_message-sound s m h (sent m refl)) f
+at_message-sound (Err fault) s next sent h f = refusal-sound s (end.Payload fault) h
 
 -- what stands whole in front of the unread bytes is a message that may be sent
-message_found : (s : NodeState) (frame : Frame) (size : ℕ) (m : Message) → IsNode s → front_of s.config.magic s.inbox.place s.inbox.unread ≡ Whole frame size → message_of frame ≡ Ok m → IsMessage m
-message_found s frame size m h front said = (message_of-said frame m (front-found s.config.magic s.inbox.place s.inbox.unread frame size h.unread front).sound said).sent
+message_found : (s : NodeState) (frame : Frame) (size : ℕ) (m : Message) → IsNode s → front_of s.config.magic s.inbox.offset s.inbox.unread ≡ WholeFrame frame size → message_of frame ≡ Ok m → IsMessage m
+message_found s frame size m h front said = (message_of-said frame m (front-found s.config.magic s.inbox.offset s.inbox.unread frame size h.unread front).sound said).sent
 
 bytes_behind : (n : ℕ) (bytes : List ℕ) → are_bytes bytes ≡ true → are_bytes (drop n bytes) ≡ true
 bytes_behind n bytes h = (bytes_split (take n bytes) (drop n bytes) (subst (λ xs. are_bytes xs ≡ true) (sym (take-append-drop n bytes)) h)).1
 
-at_front-sound : (front : Front) (s : NodeState) (next : NodeState → Turn) → front_of s.config.magic s.inbox.place s.inbox.unread ≡ front → IsNode s → IsSoundNext next → IsSoundTurn (at_front front s next)
+at_front-sound : (front : Front) (s : NodeState) (next : NodeState → Turn) → front_of s.config.magic s.inbox.offset s.inbox.unread ≡ front → IsNode s → IsSoundNext next → IsSoundTurn (at_front front s next)
 unfolding at_front
-at_front-sound Partial s next e h f = passed-sound s h
-at_front-sound (Faulty fault) s next e h f = refused-sound s (end.Frame fault) h
-at_front-sound (Whole frame size) s next e h f =
-    at_message-sound (message_of frame) (read_past s size) next (λ m said. message_found s frame size m h e said)
-    (beside s h (record { unread = drop size s.inbox.unread; place = later s.inbox.place size }) s.ended (later-low s.inbox.place size) (bytes_behind size s.inbox.unread h.unread)) f
+at_front-sound PartialFrame s next e h f = unchanged-sound s h
+at_front-sound (FaultyFrame fault) s next e h f = refusal-sound s (end.Frame fault) h
+at_front-sound (WholeFrame frame size) s next e h f =
+    at_message-sound (message_of frame) (after_frame s size) next (λ m said. message_found s frame size m h e said)
+    (beside s h (record { unread = drop size s.inbox.unread; offset = later_offset s.inbox.offset size }) s.ended (later_offset-low s.inbox.offset size) (bytes_behind size s.inbox.unread h.unread)) f
 
-pub handles-sound : (n : ℕ) (s : NodeState) → IsNode s → IsSoundTurn (handles n s)
-unfolding handles
-handles-sound zero s h = passed-sound s h
-handles-sound (suc n) s h = at_front-sound (front_of s.config.magic s.inbox.place s.inbox.unread) s (handles n) refl h (handles-sound n)
+pub on_frames-sound : (n : ℕ) (s : NodeState) → IsNode s → IsSoundTurn (on_frames n s)
+unfolding on_frames
+on_frames-sound zero s h = unchanged-sound s h
+on_frames-sound (suc n) s h = at_front-sound (front_of s.config.magic s.inbox.offset s.inbox.unread) s (on_frames n) refl h (on_frames-sound n)
 
-dropped-sound : (e : Option End) (t : Turn) → IsSoundTurn t → IsSoundTurn (dropped e t)
-unfolding dropped
-dropped-sound (Some e) t h = record { node = beside t.state h.node (record t.state.inbox { unread = [] }) t.state.ended h.node.place refl; sendable = h.sendable }
-dropped-sound None t h = h
+without_unread_by-sound : (e : Option End) (t : Turn) → IsSoundTurn t → IsSoundTurn (without_unread_by e t)
+unfolding without_unread_by
+without_unread_by-sound (Some e) t h = record { node = beside t.state h.node (record t.state.inbox { unread = [] }) t.state.ended h.node.place refl; sendable = h.sendable }
+without_unread_by-sound None t h = h
 
 piece_node : (s : NodeState) (piece : List ℕ) → IsNode s → are_bytes piece ≡ true → IsNode (with_piece s piece)
 piece_node s piece h bytes =
     beside s h (record s.inbox { unread = s.inbox.unread ++ piece }) s.ended h.place
     (list_all-append (λ b. nat_lt b (2 ^ 8)) s.inbox.unread piece ∙ and_from (are_bytes s.inbox.unread) (are_bytes piece) h.unread bytes)
 
-receives_in-sound : (e : Option End) (s : NodeState) (piece : List ℕ) → IsNode s → are_bytes piece ≡ true → IsSoundTurn (receives_in e s piece)
-unfolding receives_in
-receives_in-sound (Some e) s piece h bytes = passed-sound s h
-receives_in-sound None s piece h bytes =
+on_piece_by-sound : (e : Option End) (s : NodeState) (piece : List ℕ) → IsNode s → are_bytes piece ≡ true → IsSoundTurn (on_piece_by e s piece)
+unfolding on_piece_by
+on_piece_by-sound (Some e) s piece h bytes = unchanged-sound s h
+on_piece_by-sound None s piece h bytes =
     let v : NodeState = with_piece s piece in
-    dropped-sound (handled v).state.ended (handled v) (handles-sound (length v.inbox.unread) v (piece_node s piece h bytes))
+    without_unread_by-sound (on_unread v).state.ended (on_unread v) (on_frames-sound (length v.inbox.unread) v (piece_node s piece h bytes))
 
-pub receives-sound : (s : NodeState) (piece : List ℕ) → IsNode s → IsTrue (are_bytes piece) → IsSoundTurn (receives s piece)
-receives-sound s piece h bytes = receives_in-sound s.ended s piece h bytes
+pub on_piece-sound : (s : NodeState) (piece : List ℕ) → IsNode s → IsTrue (are_bytes piece) → IsSoundTurn (on_piece s piece)
+on_piece-sound s piece h bytes = on_piece_by-sound s.ended s piece h bytes

@@ -9,16 +9,16 @@ use Rattle.std.proofs.lemmas.List.Folds.{list_all-append}
 use Rattle.sha2.specs.Sha256.{sha256, digest_bytes, final_hash, initial_hash_256}
 use Rattle.sha2.proofs.Facts256.{length-sha256}
 use Rattle.base_types.specs.declared.lists.Hash32.{Hash32}
-use Rattle.sketch_rules.specs.Answers.{Rises}
+use Rattle.sketch_rules.specs.Answers.{IsAscending}
 use Rattle.sketch_rules.specs.Sketches.{bytes_of, sums_in}
 use Rattle.id_rules.specs.Bytes.{are_bytes, are_bytes_of}
 use Rattle.id_rules.specs.Ids.{wtxid}
 use Rattle.pool_rules.specs.Capacity.{next_q}
-use Rattle.pool_rules.specs.Pools.{Held, same_id, listed, Distinct, in_pool, pool_ids}
+use Rattle.pool_rules.specs.Pools.{Transaction, is_same_id, is_listed, AreDistinctIds, is_in_pool, pool_ids}
 use Rattle.node_invariants.proofs.Ids.{same_is, same_self}
 use Rattle.node_invariants.proofs.Lists.{all_weaker, all_filter, filter_passed}
 use Rattle.pool_rules.specs.Snapshots.{Member, sketched_shorts}
-use Rattle.node_rules.specs.Outcomes.{mine_in, is_in}
+use Rattle.node_rules.specs.Outcomes.{own_short_ids, is_in}
 use Rattle.node_invariants.proofs.Rooms.{pool_listed}
 
 -- ---- distinct things that a list has are no more than its items
@@ -77,25 +77,25 @@ module _ {A : Type 0} (same : A → A → Bool) (is : (a b : A) → same a b ≡
       omega arith
 
 -- ids
-unequal : (x : Hash32) (xs : List Hash32) → listed xs x ≡ false → AllByRecursion (λ y. same_id x y ≡ false) xs
+unequal : (x : Hash32) (xs : List Hash32) → is_listed xs x ≡ false → AllByRecursion (λ y. is_same_id x y ≡ false) xs
 unequal x [] h = tt
 unequal x (y ∷ ys) h =
-    let parts = or_parts (same_id y x) (listed ys x) h in
-    (false_from_ne_true (same_id x y) (λ e. both_ways (same_id y x) parts.0 (subst (λ z. same_id z x ≡ true) (same_is x y e) (same_self x))), unequal x ys parts.1)
+    let parts = or_parts (is_same_id y x) (is_listed ys x) h in
+    (false_from_ne_true (is_same_id x y) (λ e. both_ways (is_same_id y x) parts.0 (subst (λ z. is_same_id z x ≡ true) (same_is x y e) (same_self x))), unequal x ys parts.1)
 
-item_listed : (xs : List Hash32) (id : Hash32) → has_item same_id same_is xs id ≡ listed xs id
+item_listed : (xs : List Hash32) (id : Hash32) → has_item is_same_id same_is xs id ≡ is_listed xs id
 unfolding has_item
 item_listed [] id = refl
-item_listed (x ∷ xs) id = ap (λ b. same_id x id || b) (item_listed xs id)
+item_listed (x ∷ xs) id = ap (λ b. is_same_id x id || b) (item_listed xs id)
 
-once_ids : (ids : List Hash32) → Distinct ids → Once same_id same_is ids
-unfolding Distinct Once
+once_ids : (ids : List Hash32) → AreDistinctIds ids → Once is_same_id same_is ids
+unfolding AreDistinctIds Once
 once_ids [] d = tt
-once_ids (x ∷ xs) d = (unequal x xs (not-true (listed xs x) d.0), once_ids xs d.1)
+once_ids (x ∷ xs) d = (unequal x xs (not-true (is_listed xs x) d.0), once_ids xs d.1)
 
-pub ids_within : (ids : List Hash32) (pool : List Held) → Distinct ids → AllByRecursion (λ id. in_pool pool id ≡ true) ids → length ids ≤ length pool
+pub ids_within : (ids : List Hash32) (pool : List Transaction) → AreDistinctIds ids → AllByRecursion (λ id. is_in_pool pool id ≡ true) ids → length ids ≤ length pool
 ids_within ids pool d h =
-    let few = no_more same_id same_is ids (pool_ids pool) (once_ids ids d) (all_weaker (λ id. in_pool pool id ≡ true) (λ id. has_item same_id same_is (pool_ids pool) id ≡ true) (λ id e. item_listed (pool_ids pool) id ∙ (sym (pool_listed pool id) ∙ e)) ids h) in
+    let few = no_more is_same_id same_is ids (pool_ids pool) (once_ids ids d) (all_weaker (λ id. is_in_pool pool id ≡ true) (λ id. has_item is_same_id same_is (pool_ids pool) id ≡ true) (λ id e. item_listed (pool_ids pool) id ∙ (sym (pool_listed pool id) ∙ e)) ids h) in
     subst (λ n. length ids ≤ n) (length-map pool (λ t. t.id)) few
 
 -- numbers
@@ -106,13 +106,13 @@ n_is : (a b : ℕ) → same_n a b ≡ true → a ≡ b
 unfolding same_n
 n_is a b e = eqb-true a b e
 
-above : (e low high : ℕ) (es : List ℕ) → Rises low high es → e < low → AllByRecursion (λ y. same_n e y ≡ false) es
-unfolding Rises same_n
+above : (e low high : ℕ) (es : List ℕ) → IsAscending low high es → e < low → AllByRecursion (λ y. same_n e y ≡ false) es
+unfolding IsAscending same_n
 above e low high [] h lt = tt
 above e low high (x ∷ xs) h lt = (ne_eqb e x (λ same. let le = h.0 in absurd (omega (arith, same, le, lt))), above e (x + 1) high xs h.2 (let le = h.0 in omega (arith, le, lt)))
 
-once_rising : (low high : ℕ) (es : List ℕ) → Rises low high es → Once same_n n_is es
-unfolding Rises Once same_n
+once_rising : (low high : ℕ) (es : List ℕ) → IsAscending low high es → Once same_n n_is es
+unfolding IsAscending Once same_n
 once_rising low high [] h = tt
 once_rising low high (e ∷ es) h = (above e (e + 1) high es h.2 (omega arith), once_rising (e + 1) high es h.2)
 
@@ -128,10 +128,10 @@ item_in [] n = refl
 item_in (x ∷ xs) n = ap (λ b. (x == n) || b) (item_in xs n)
 
 -- the opener's own of an answer are no more than it has sketched
-pub mine_few : (snapshot : List Member) (es : List ℕ) → Rises 1 (2 ^ 32) es → length (mine_in snapshot es) ≤ length (sketched_shorts snapshot)
+pub mine_few : (snapshot : List Member) (es : List ℕ) → IsAscending 1 (2 ^ 32) es → length (own_short_ids snapshot es) ≤ length (sketched_shorts snapshot)
 mine_few snapshot es h =
-    no_more same_n n_is (mine_in snapshot es) (sketched_shorts snapshot) (once_filter (λ n. is_in (sketched_shorts snapshot) n) es (once_rising 1 (2 ^ 32) es h))
-    (all_weaker (λ n. is_in (sketched_shorts snapshot) n ≡ true) (λ n. has_item same_n n_is (sketched_shorts snapshot) n ≡ true) (λ n e. item_in (sketched_shorts snapshot) n ∙ e) (mine_in snapshot es) (filter_passed (λ n. is_in (sketched_shorts snapshot) n) es))
+    no_more same_n n_is (own_short_ids snapshot es) (sketched_shorts snapshot) (once_filter (λ n. is_in (sketched_shorts snapshot) n) es (once_rising 1 (2 ^ 32) es h))
+    (all_weaker (λ n. is_in (sketched_shorts snapshot) n ≡ true) (λ n. has_item same_n n_is (sketched_shorts snapshot) n ≡ true) (λ n e. item_in (sketched_shorts snapshot) n ∙ e) (own_short_ids snapshot es) (filter_passed (λ n. is_in (sketched_shorts snapshot) n) es))
 
 -- ---- the next coefficient
 

@@ -2,32 +2,32 @@
 use Rattle.std.proofs.Common.{◌≡◌, ℕ, zero, suc, ◌+◌, ◌%◌, ◌^◌, ◌<◌, ◌≤◌, ◌==◌, nat_eq, Bool, true, false, List, [], ◌∷◌, ◌++◌, length, Option, Some, None, if◌then◌else◌, refl, sym, ap, subst, ⊎_elim, arith, lit<, lit≤, mod-lt, ne_eqb, eqb-true}
 use Rattle.std.specs.List.{AllByRecursion, IsDistinct}
 use Rattle.std.proofs.lemmas.Bool.{or_cases, or_parts}
-use Rattle.sketch_rules.specs.Answers.{Rises}
+use Rattle.sketch_rules.specs.Answers.{IsAscending}
 use Rattle.id_rules.specs.Ids.{KeyPair}
 use Rattle.id_rules.specs.SipHash.{sip24}
 use Rattle.wire_rules.specs.Limits.{IsMessage}
 use Rattle.wire_rules.specs.declared.message.Message.{Message}
-use Rattle.pool_rules.specs.Pools.{Held, IsHeld, held, in_pool}
-use Rattle.pool_rules.specs.Snapshots.{Member, shorts_of, sketched, sketched_shorts, is_single}
+use Rattle.pool_rules.specs.Pools.{Transaction, IsTransaction, transaction_of, is_in_pool}
+use Rattle.pool_rules.specs.Snapshots.{Member, shorts_of, sketched_members, sketched_shorts, is_single}
 use Rattle.pool_rules.specs.declared.limits.TheConstants.{FIRST_LIMIT}
 use Rattle.pool_rules.specs.declared.report.Ending.{Ending}
 use Rattle.pool_rules.specs.declared.report.Ending.TheVariants as ending
 use Rattle.pool_rules.specs.declared.report.Report.{Report}
 use Rattle.pool_laws.proofs.Ids.{short_id-nonzero, short_id-small}
-use Rattle.node_rules.specs.Accepter.{ask_fault, asks_on_failure, diff_fault, ending_of}
-use Rattle.node_rules.specs.Additions.{adds}
+use Rattle.node_rules.specs.Accepter.{ask_fault, failure_fault, diff_fault, ending_of}
+use Rattle.node_rules.specs.Additions.{on_addition}
 use Rattle.node_rules.specs.Invariant.{IsReport, IsShort, IsMember, AreMembers, IsSetUp, IsBounded}
-use Rattle.node_rules.specs.Opener.{joined, answer_to}
+use Rattle.node_rules.specs.Opener.{round_after_sketch, answer_to}
 use Rattle.node_rules.specs.Outcomes.{is_in, report_of}
-use Rattle.node_rules.specs.Stages.{answered_at, given}
+use Rattle.node_rules.specs.Stages.{answered_ending, sent_extensions}
 use Rattle.node_rules.specs.State.{NodeState, Round, node_keys}
-use Rattle.node_rules.specs.Steps.{takes, begins}
+use Rattle.node_rules.specs.Steps.{on_message, on_start}
 use Rattle.node_rules.specs.declared.end.End.{End}
 use Rattle.node_rules.specs.declared.end.End.TheVariants as end
-use Rattle.node_invariants.proofs.Bounds.{joined-is, answer-is, sketched-round}
+use Rattle.node_invariants.proofs.Bounds.{round_after_sketch-is, answer-is, sketched-round}
 use Rattle.node_invariants.proofs.Ids.{in_pool_more}
 use Rattle.node_invariants.proofs.Lists.{all_append, all_filter, all_weaker}
-use Rattle.node_invariants.proofs.Rows.{EachRow, IsAwaitingSketch, takes-rows, adds-rows, begins-rows}
+use Rattle.node_invariants.proofs.Rows.{EachRow, IsAwaitingSketch, on_message-rows, on_addition-rows, on_start-rows}
 use Rattle.node_invariants.proofs.Sets.{pooled_ids}
 
 -- ---- short ids
@@ -42,18 +42,18 @@ unfolding IsDistinct
 none_short = record { once = tt; each = tt }
 
 -- numbers that rise from above another one
-rising_apart : (n low high : ℕ) (es : List ℕ) → n < low → Rises low high es → AllByRecursion (λ e. nat_eq n e ≡ false) es
-unfolding Rises
+rising_apart : (n low high : ℕ) (es : List ℕ) → n < low → IsAscending low high es → AllByRecursion (λ e. nat_eq n e ≡ false) es
+unfolding IsAscending
 rising_apart n low high [] lt h = tt
 rising_apart n low high (e ∷ es) lt h = let le = h.0 in (ne_eqb n e (λ same. absurd (omega (arith, same, le, lt))), rising_apart n (e + 1) high es (omega (arith, le, lt)) h.2)
 
-rising_once : (low high : ℕ) (es : List ℕ) → Rises low high es → IsDistinct nat_eq es
-unfolding Rises IsDistinct
+rising_once : (low high : ℕ) (es : List ℕ) → IsAscending low high es → IsDistinct nat_eq es
+unfolding IsAscending IsDistinct
 rising_once low high [] h = tt
 rising_once low high (e ∷ es) h = (rising_apart e (e + 1) high es (omega arith) h.2, rising_once (e + 1) high es h.2)
 
-rising_each : (low : ℕ) (es : List ℕ) → 1 ≤ low → Rises low (2 ^ 32) es → AllByRecursion IsShort es
-unfolding Rises
+rising_each : (low : ℕ) (es : List ℕ) → 1 ≤ low → IsAscending low (2 ^ 32) es → AllByRecursion IsShort es
+unfolding IsAscending
 rising_each low [] le h = tt
 rising_each low (e ∷ es) le h = let from = h.0 in (record { least = omega (arith, le, from); most = h.1 }, rising_each (e + 1) es (omega arith) h.2)
 
@@ -62,7 +62,7 @@ answer_short r es e = let a = answer-is r es e in record { once = rising_once 1 
 
 -- ---- the short ids of members
 
-member_short : (keys : KeyPair) (pool : List Held) (m : Member) → IsMember keys pool m → IsShort m.short
+member_short : (keys : KeyPair) (pool : List Transaction) (m : Member) → IsMember keys pool m → IsShort m.short
 member_short keys pool m h =
     subst IsShort (sym (ap (λ (x : Member). x.short) h.short)) (record { least = let some = short_id-nonzero keys m.id in omega (arith, some); most = short_id-small keys m.id })
 
@@ -70,8 +70,8 @@ shorts_each : (ms : List Member) → AllByRecursion (λ m. IsShort m.short) ms �
 shorts_each [] h = tt
 shorts_each (m ∷ ms) h = (h.0, shorts_each ms h.1)
 
-sketched_each : (keys : KeyPair) (pool : List Held) (snapshot : List Member) → AllByRecursion (IsMember keys pool) snapshot → AllByRecursion IsShort (sketched_shorts snapshot)
-sketched_each keys pool snapshot h = shorts_each (sketched snapshot) (all_filter (λ m. IsShort m.short) (λ m. is_single snapshot m.short) snapshot (all_weaker (IsMember keys pool) (λ m. IsShort m.short) (member_short keys pool) snapshot h))
+sketched_each : (keys : KeyPair) (pool : List Transaction) (snapshot : List Member) → AllByRecursion (IsMember keys pool) snapshot → AllByRecursion IsShort (sketched_shorts snapshot)
+sketched_each keys pool snapshot h = shorts_each (sketched_members snapshot) (all_filter (λ m. IsShort m.short) (λ m. is_single snapshot m.short) snapshot (all_weaker (IsMember keys pool) (λ m. IsShort m.short) (member_short keys pool) snapshot h))
 
 is_in_each : (P : ℕ → Type 0) (ns : List ℕ) (n : ℕ) → AllByRecursion P ns → is_in ns n ≡ true → P n
 is_in_each P [] n h e = absurd (let apart : false ≡ true = e in cc)
@@ -101,11 +101,11 @@ asked_well shorts before (n ∷ ns) e =
       first = (now.1, all_weaker (λ m. is_in (n ∷ before) m ≡ false) (λ m. is_in before m ≡ false) (λ m k. (or_parts (n == m) (is_in before m) k).1) ns later.first);
     }
 
-none_asked : (asks : List ℕ) → asks_on_failure asks ≡ None → AreShort asks
+none_asked : (asks : List ℕ) → failure_fault asks ≡ None → AreShort asks
 none_asked [] e = none_short
 none_asked (n ∷ ns) e = absurd (let apart : Some (end.AsksOnFailure (length (n ∷ ns))) ≡ None = e in cc)
 
-asks_short : (success : Bool) (keys : KeyPair) (pool : List Held) (r : Round) (asks : List ℕ) → AreMembers keys pool r.snapshot → diff_fault success r asks ≡ None → AreShort asks
+asks_short : (success : Bool) (keys : KeyPair) (pool : List Transaction) (r : Round) (asks : List ℕ) → AreMembers keys pool r.snapshot → diff_fault success r asks ≡ None → AreShort asks
 asks_short true keys pool r asks h e =
     let a = asked_well (sketched_shorts r.snapshot) [] asks e in
     record { once = a.once; each = all_weaker (λ n. is_in (sketched_shorts r.snapshot) n ≡ true) IsShort (λ n k. is_in_each IsShort (sketched_shorts r.snapshot) n (sketched_each keys pool r.snapshot h.each) k) asks a.sketched }
@@ -113,32 +113,32 @@ asks_short false keys pool r asks h e = none_asked asks e
 
 -- ---- reports
 
-reported : (keys : KeyPair) (pool : List Held) (r : Round) (e : Ending) (ns : List ℕ) → AreMembers keys pool r.snapshot → r.capacity ≤ FIRST_LIMIT → AreShort ns → IsReport pool (report_of r e ns)
+reported : (keys : KeyPair) (pool : List Transaction) (r : Round) (e : Ending) (ns : List ℕ) → AreMembers keys pool r.snapshot → r.capacity ≤ FIRST_LIMIT → AreShort ns → IsReport pool (report_of r e ns)
 reported keys pool r e ns h le a = record { once = h.once; pooled = pooled_ids keys pool r.snapshot h.each; capacity = le; answered_once = a.once; answered = a.each }
 
-larger_pool : (pool more : List Held) (rs : List Report) → AllByRecursion (IsReport pool) rs → AllByRecursion (IsReport (pool ++ more)) rs
+larger_pool : (pool more : List Transaction) (rs : List Report) → AllByRecursion (IsReport pool) rs → AllByRecursion (IsReport (pool ++ more)) rs
 larger_pool pool more rs h =
     all_weaker (IsReport pool) (IsReport (pool ++ more))
-    (λ r k. record { once = k.once; pooled = all_weaker (λ id. in_pool pool id ≡ true) (λ id. in_pool (pool ++ more) id ≡ true) (in_pool_more pool more) r.snapshot k.pooled; capacity = k.capacity; answered_once = k.answered_once; answered = k.answered })
+    (λ r k. record { once = k.once; pooled = all_weaker (λ id. is_in_pool pool id ≡ true) (λ id. is_in_pool (pool ++ more) id ≡ true) (in_pool_more pool more) r.snapshot k.pooled; capacity = k.capacity; answered_once = k.answered_once; answered = k.answered })
     rs h
 
 -- ---- the rows
 
 module _ (s : NodeState) (setup : IsSetUp s) (b : IsBounded s.machine s.requests) (h : AllByRecursion (IsReport s.pool) s.machine.reports) where
-  joined_members : (n : ℕ) (bytes : List ℕ) → AreMembers (node_keys s) s.pool (joined s.machine s.set n bytes).snapshot
-  unfolding joined
+  joined_members : (n : ℕ) (bytes : List ℕ) → AreMembers (node_keys s) s.pool (round_after_sketch s.machine s.set n bytes).snapshot
+  unfolding round_after_sketch
   joined_members zero bytes = setup.set
   joined_members (suc n) bytes = setup.snapshot
 
   one_more_report : (r : Report) → IsReport s.pool r → AllByRecursion (IsReport s.pool) (s.machine.reports ++ r ∷ [])
   one_more_report r k = all_append (IsReport s.pool) s.machine.reports (r ∷ []) h (k, tt)
 
-  answered_reports : (n : ℕ) (bytes : List ℕ) (e : Ending) (ns : List ℕ) → IsAwaitingSketch s n bytes → AreShort ns → AllByRecursion (IsReport s.pool) (s.machine.reports ++ report_of (joined s.machine s.set n bytes) e ns ∷ [])
+  answered_reports : (n : ℕ) (bytes : List ℕ) (e : Ending) (ns : List ℕ) → IsAwaitingSketch s n bytes → AreShort ns → AllByRecursion (IsReport s.pool) (s.machine.reports ++ report_of (round_after_sketch s.machine s.set n bytes) e ns ∷ [])
   answered_reports n bytes e ns a short =
-      let r : Round = joined s.machine s.set n bytes in
-      one_more_report (report_of r e ns) (reported (node_keys s) s.pool r e ns (joined_members n bytes) (joined-is n s.machine s.requests s.set bytes b a.waits a.fits a.ranged).most short)
+      let r : Round = round_after_sketch s.machine s.set n bytes in
+      one_more_report (report_of r e ns) (reported (node_keys s) s.pool r e ns (joined_members n bytes) (round_after_sketch-is n s.machine s.requests s.set bytes b a.waits a.fits a.ranged).most short)
 
-  asked_reports : (n : ℕ) (success : Bool) (asks : List ℕ) → given s.machine.phase ≡ Some n → diff_fault success s.machine.round asks ≡ None → AllByRecursion (IsReport s.pool) (s.machine.reports ++ report_of s.machine.round (ending_of success n) asks ∷ [])
+  asked_reports : (n : ℕ) (success : Bool) (asks : List ℕ) → sent_extensions s.machine.phase ≡ Some n → diff_fault success s.machine.round asks ≡ None → AllByRecursion (IsReport s.pool) (s.machine.reports ++ report_of s.machine.round (ending_of success n) asks ∷ [])
   asked_reports n success asks g e =
       let r : Round = s.machine.round in
       one_more_report (report_of r (ending_of success n) asks)
@@ -153,7 +153,7 @@ module _ (s : NodeState) (setup : IsSetUp s) (b : IsBounded s.machine s.requests
     offer = λ o e is none. h;
     plain = λ e by_id none. h;
     whole = λ o e by_id some. h;
-    answer = λ n bytes es a e. answered_reports n bytes (answered_at n) es a (answer_short (joined s.machine s.set n bytes) es e);
+    answer = λ n bytes es a e. answered_reports n bytes (answered_ending n) es a (answer_short (round_after_sketch s.machine s.set n bytes) es e);
     more = λ n bytes a e. h;
     fallback = λ n bytes a. answered_reports n bytes ending.Fallback [] a none_short;
     first = λ size q a e. h;
@@ -174,11 +174,11 @@ module _ (s : NodeState) (setup : IsSetUp s) (b : IsBounded s.machine s.requests
     plain_round = λ r idle plain. h;
   }
 
-  pub takes-reports : (m : Message) → IsMessage m → AllByRecursion (IsReport (takes s m).state.pool) (takes s m).state.machine.reports
-  takes-reports m sound = takes-rows s (λ t. AllByRecursion (IsReport t.state.pool) t.state.machine.reports) report_rows m sound
+  pub on_message-reports : (m : Message) → IsMessage m → AllByRecursion (IsReport (on_message s m).state.pool) (on_message s m).state.machine.reports
+  on_message-reports m sound = on_message-rows s (λ t. AllByRecursion (IsReport t.state.pool) t.state.machine.reports) report_rows m sound
 
-  pub adds-reports : (tx : List ℕ) → IsHeld (held tx) → AllByRecursion (IsReport (adds s tx).turn.state.pool) (adds s tx).turn.state.machine.reports
-  adds-reports tx sound = adds-rows s (λ t. AllByRecursion (IsReport t.state.pool) t.state.machine.reports) report_rows tx sound
+  pub on_addition-reports : (tx : List ℕ) → IsTransaction (transaction_of tx) → AllByRecursion (IsReport (on_addition s tx).turn.state.pool) (on_addition s tx).turn.state.machine.reports
+  on_addition-reports tx sound = on_addition-rows s (λ t. AllByRecursion (IsReport t.state.pool) t.state.machine.reports) report_rows tx sound
 
-  pub begins-reports : AllByRecursion (IsReport (begins s).turn.state.pool) (begins s).turn.state.machine.reports
-  begins-reports = begins-rows s (λ t. AllByRecursion (IsReport t.state.pool) t.state.machine.reports) report_rows
+  pub on_start-reports : AllByRecursion (IsReport (on_start s).turn.state.pool) (on_start s).turn.state.machine.reports
+  on_start-reports = on_start-rows s (λ t. AllByRecursion (IsReport t.state.pool) t.state.machine.reports) report_rows

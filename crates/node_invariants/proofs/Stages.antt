@@ -3,32 +3,32 @@ use Rattle.std.proofs.Common.{◌≡◌, ℕ, zero, suc, ◌≤◌, true, false,
 use Rattle.base_types.specs.declared.lists.Hash32.{Hash32}
 use Rattle.wire_rules.specs.declared.phase.Phase.{Phase}
 use Rattle.wire_rules.specs.declared.phase.Phase.TheVariants as phase
-use Rattle.node_rules.specs.Barrier.{is_barrier, behind_barrier, settled}
-use Rattle.node_rules.specs.Stages.{waiting, sent, asked_for, given, is_idle}
+use Rattle.node_rules.specs.Barrier.{is_barrier, phase_after_barrier, phase_after_fetch}
+use Rattle.node_rules.specs.Stages.{waiting_phase, sent_phase, requested_extensions, sent_extensions, is_idle}
 
 -- no sketch is waited for, and none was sent
 pub record HasNoSketch (p : Phase) : Type 0 where
-  pub asked : asked_for p ≡ None
-  pub sent : given p ≡ None
+  pub asked : requested_extensions p ≡ None
+  pub sent : sent_extensions p ≡ None
 
 pub greeting-rests : HasNoSketch phase.Greeting
-unfolding asked_for given
+unfolding requested_extensions sent_extensions
 greeting-rests = record { asked = refl; sent = refl }
 
 pub greeted-rests : HasNoSketch phase.Greeted
-unfolding asked_for given
+unfolding requested_extensions sent_extensions
 greeted-rests = record { asked = refl; sent = refl }
 
 pub idle-rests : HasNoSketch phase.Idle
-unfolding asked_for given
+unfolding requested_extensions sent_extensions
 idle-rests = record { asked = refl; sent = refl }
 
 pub barrier-rests : HasNoSketch phase.Barrier
-unfolding asked_for given
+unfolding requested_extensions sent_extensions
 barrier-rests = record { asked = refl; sent = refl }
 
-pub behind-rests : (ids : List Hash32) → HasNoSketch (behind_barrier ids)
-unfolding asked_for given behind_barrier
+pub behind-rests : (ids : List Hash32) → HasNoSketch (phase_after_barrier ids)
+unfolding requested_extensions sent_extensions phase_after_barrier
 behind-rests [] = record { asked = refl; sent = refl }
 behind-rests (id ∷ ids) = record { asked = refl; sent = refl }
 
@@ -43,49 +43,49 @@ is_barrier-rests phase.Barrier e = barrier-rests
 is_barrier-rests other e = absurd (let apart : false ≡ true = e in cc)
 
 -- the end of fetching changes neither
-pub settled-asked : (ids : List Hash32) (p : Phase) → asked_for (settled ids p) ≡ asked_for p
-unfolding asked_for settled
-settled-asked [] phase.Fetching = refl
-settled-asked ids other = refl
+pub phase_after_fetch-asked : (ids : List Hash32) (p : Phase) → requested_extensions (phase_after_fetch ids p) ≡ requested_extensions p
+unfolding requested_extensions phase_after_fetch
+phase_after_fetch-asked [] phase.Fetching = refl
+phase_after_fetch-asked ids other = refl
 
-pub settled-given : (ids : List Hash32) (p : Phase) → given (settled ids p) ≡ given p
-unfolding given settled
-settled-given [] phase.Fetching = refl
-settled-given ids other = refl
+pub phase_after_fetch-sent_extensions : (ids : List Hash32) (p : Phase) → sent_extensions (phase_after_fetch ids p) ≡ sent_extensions p
+unfolding sent_extensions phase_after_fetch
+phase_after_fetch-sent_extensions [] phase.Fetching = refl
+phase_after_fetch-sent_extensions ids other = refl
 
-pub asked-waiting : (n : ℕ) → n ≤ 2 → asked_for (waiting n) ≡ Some n
-unfolding asked_for waiting
-asked-waiting zero h = refl
-asked-waiting (suc zero) h = refl
-asked-waiting (suc (suc zero)) h = refl
-asked-waiting (suc (suc (suc n))) h = absurd (omega arith)
+pub asked-waiting_phase : (n : ℕ) → n ≤ 2 → requested_extensions (waiting_phase n) ≡ Some n
+unfolding requested_extensions waiting_phase
+asked-waiting_phase zero h = refl
+asked-waiting_phase (suc zero) h = refl
+asked-waiting_phase (suc (suc zero)) h = refl
+asked-waiting_phase (suc (suc (suc n))) h = absurd (omega arith)
 
-pub given-waiting : (n : ℕ) → given (waiting n) ≡ None
-unfolding given waiting
-given-waiting zero = refl
-given-waiting (suc zero) = refl
-given-waiting (suc (suc n)) = refl
+pub sent_extensions-waiting_phase : (n : ℕ) → sent_extensions (waiting_phase n) ≡ None
+unfolding sent_extensions waiting_phase
+sent_extensions-waiting_phase zero = refl
+sent_extensions-waiting_phase (suc zero) = refl
+sent_extensions-waiting_phase (suc (suc n)) = refl
 
-pub given-sent : (n : ℕ) → n ≤ 2 → given (sent n) ≡ Some n
-unfolding given sent
-given-sent zero h = refl
-given-sent (suc zero) h = refl
-given-sent (suc (suc zero)) h = refl
-given-sent (suc (suc (suc n))) h = absurd (omega arith)
+pub sent_extensions-sent_phase : (n : ℕ) → n ≤ 2 → sent_extensions (sent_phase n) ≡ Some n
+unfolding sent_extensions sent_phase
+sent_extensions-sent_phase zero h = refl
+sent_extensions-sent_phase (suc zero) h = refl
+sent_extensions-sent_phase (suc (suc zero)) h = refl
+sent_extensions-sent_phase (suc (suc (suc n))) h = absurd (omega arith)
 
-pub asked-sent : (n : ℕ) → asked_for (sent n) ≡ None
-unfolding asked_for sent
-asked-sent zero = refl
-asked-sent (suc zero) = refl
-asked-sent (suc (suc n)) = refl
+pub asked-sent_phase : (n : ℕ) → requested_extensions (sent_phase n) ≡ None
+unfolding requested_extensions sent_phase
+asked-sent_phase zero = refl
+asked-sent_phase (suc zero) = refl
+asked-sent_phase (suc (suc n)) = refl
 
 -- a phase in which a sketch was sent waits for none
-pub given-unasked : (p : Phase) (n : ℕ) → given p ≡ Some n → asked_for p ≡ None
-unfolding asked_for given
-given-unasked phase.Sent n e = refl
-given-unasked phase.SentExt n e = refl
-given-unasked phase.SentExt2 n e = refl
-given-unasked other n e = absurd (let apart : None ≡ Some n = e in cc)
+pub sent_extensions-unasked : (p : Phase) (n : ℕ) → sent_extensions p ≡ Some n → requested_extensions p ≡ None
+unfolding requested_extensions sent_extensions
+sent_extensions-unasked phase.Sent n e = refl
+sent_extensions-unasked phase.SentExt n e = refl
+sent_extensions-unasked phase.SentExt2 n e = refl
+sent_extensions-unasked other n e = absurd (let apart : None ≡ Some n = e in cc)
 
 pub some_is : (m n : ℕ) → Some m ≡ Some n → m ≡ n
 some_is m n e = cc

@@ -7,51 +7,51 @@ ghost use Rattle.std.specs.List.{AllByRecursion};
 ghost use Rattle.id_rules.specs.Bytes.{are_bytes, is_tx_length};
 ghost use Rattle.wire_rules.specs.Limits.{IsMessage};
 ghost use Rattle.wire_rules.specs.declared.message.Message.{Message};
-ghost use Rattle.pool_rules.specs.Pools.{Held, IsHeld, IsPool, held};
+ghost use Rattle.pool_rules.specs.Pools.{Transaction, IsTransaction, IsPool, transaction_of};
 ghost use Rattle.pool_rules.specs.declared.limits.TheConstants.{POOL_LIMIT};
-ghost use Rattle.node_rules.specs.Additions.{adds};
+ghost use Rattle.node_rules.specs.Additions.{on_addition};
 ghost use Rattle.node_rules.specs.Handshake.{opening_messages};
 ghost use Rattle.node_rules.specs.Invariant.{IsConfig, IsStore, IsSetUp, IsConversing, IsBounded, IsNode};
 ghost use Rattle.node_rules.specs.State.{NodeState, opening_state};
-ghost use Rattle.node_rules.specs.Steps.{takes, takes_all, receives, begins};
+ghost use Rattle.node_rules.specs.Steps.{on_message, on_messages, on_piece, on_start};
 ghost use Rattle.node_rules.specs.declared.config.Config.{Config};
 
 /// A node's pool, its wants and what it has served are kept within their limits: by every message that may be sent, every
 /// addition of bytes that may be a transaction, and the start of a round, also where the node ends. It does nothing when it
 /// runs: its contract is the theorem.
 pub fn stores_are_kept()
-    ensures opening { (c : Config) (pool : List Held) → IsPool pool → IsStore (opening_state c pool) }
-    ensures by_message { (s : NodeState) (m : Message) → IsStore s → IsMessage m → IsStore (takes s m).state }
-    ensures by_addition { (s : NodeState) (tx : List ℕ) → IsStore s → IsHeld (held tx) → IsStore (adds s tx).turn.state }
-    ensures by_round { (s : NodeState) → IsStore s → IsStore (begins s).turn.state }
+    ensures opening { (c : Config) (pool : List Transaction) → IsPool pool → IsStore (opening_state c pool) }
+    ensures by_message { (s : NodeState) (m : Message) → IsStore s → IsMessage m → IsStore (on_message s m).state }
+    ensures by_addition { (s : NodeState) (tx : List ℕ) → IsStore s → IsTransaction (transaction_of tx) → IsStore (on_addition s tx).turn.state }
+    ensures by_round { (s : NodeState) → IsStore s → IsStore (on_start s).turn.state }
 {}
 
 /// Behind each step of a node its set and its snapshot have members of its pool alone, each once and under the key of both
 /// salts, they have none in common, and the set has none that the peer is known to have. It does nothing when it runs: its
 /// contract is the theorem.
 pub fn sets_are_kept()
-    ensures opening { (c : Config) (pool : List Held) → IsSetUp (opening_state c pool) }
-    ensures by_message { (s : NodeState) (m : Message) → IsNode s → IsMessage m → IsSetUp (takes s m).state }
-    ensures by_addition { (s : NodeState) (tx : List ℕ) → IsNode s → IsHeld (held tx) → IsSetUp (adds s tx).turn.state }
-    ensures by_round { (s : NodeState) → IsNode s → IsSetUp (begins s).turn.state }
+    ensures opening { (c : Config) (pool : List Transaction) → IsSetUp (opening_state c pool) }
+    ensures by_message { (s : NodeState) (m : Message) → IsNode s → IsMessage m → IsSetUp (on_message s m).state }
+    ensures by_addition { (s : NodeState) (tx : List ℕ) → IsNode s → IsTransaction (transaction_of tx) → IsSetUp (on_addition s tx).turn.state }
+    ensures by_round { (s : NodeState) → IsNode s → IsSetUp (on_start s).turn.state }
 {}
 
 /// Behind each step of a node the numbers of its machine are within their limits, and so is the round that it keeps. It does
 /// nothing when it runs: its contract is the theorem.
 pub fn numbers_are_kept()
-    ensures opening { (c : Config) (pool : List Held) → IsBounded (opening_state c pool).machine (opening_state c pool).requests }
-    ensures by_message { (s : NodeState) (m : Message) → IsNode s → IsMessage m → IsBounded (takes s m).state.machine (takes s m).state.requests }
-    ensures by_addition { (s : NodeState) (tx : List ℕ) → IsNode s → IsHeld (held tx) → IsBounded (adds s tx).turn.state.machine (adds s tx).turn.state.requests }
-    ensures by_round { (s : NodeState) → IsNode s → IsBounded (begins s).turn.state.machine (begins s).turn.state.requests }
+    ensures opening { (c : Config) (pool : List Transaction) → IsBounded (opening_state c pool).machine (opening_state c pool).requests }
+    ensures by_message { (s : NodeState) (m : Message) → IsNode s → IsMessage m → IsBounded (on_message s m).state.machine (on_message s m).state.requests }
+    ensures by_addition { (s : NodeState) (tx : List ℕ) → IsNode s → IsTransaction (transaction_of tx) → IsBounded (on_addition s tx).turn.state.machine (on_addition s tx).turn.state.requests }
+    ensures by_round { (s : NodeState) → IsNode s → IsBounded (on_start s).turn.state.machine (on_start s).turn.state.requests }
 {}
 
 /// Each message that a node sends may be sent: what a new one has to send, and what it sends in a step. It does nothing when
 /// it runs: its contract is the theorem.
 pub fn what_is_sent_may_be_sent()
     ensures opening { (c : Config) → IsConfig c → AllByRecursion IsMessage (opening_messages c) }
-    ensures by_message { (s : NodeState) (m : Message) → IsNode s → IsMessage m → AllByRecursion IsMessage (takes s m).out }
-    ensures by_addition { (s : NodeState) (tx : List ℕ) → IsNode s → IsHeld (held tx) → AllByRecursion IsMessage (adds s tx).turn.out }
-    ensures by_round { (s : NodeState) → IsNode s → AllByRecursion IsMessage (begins s).turn.out }
+    ensures by_message { (s : NodeState) (m : Message) → IsNode s → IsMessage m → AllByRecursion IsMessage (on_message s m).out }
+    ensures by_addition { (s : NodeState) (tx : List ℕ) → IsNode s → IsTransaction (transaction_of tx) → AllByRecursion IsMessage (on_addition s tx).turn.out }
+    ensures by_round { (s : NodeState) → IsNode s → AllByRecursion IsMessage (on_start s).turn.out }
 {}
 
 /// A node's set and its snapshot have no more members than a pool may have transactions. It does nothing when it runs: its
@@ -64,31 +64,31 @@ pub fn sets_fit_the_pool()
 /// What a node notes of its peer, its level, its phase and what its role keeps hold behind each of its steps. It does nothing
 /// when it runs: its contract is the theorem.
 pub fn conversations_are_kept()
-    ensures opening { (c : Config) (pool : List Held) → IsConversing (opening_state c pool) }
-    ensures by_message { (s : NodeState) (m : Message) → IsConversing s → IsMessage m → IsConversing (takes s m).state }
-    ensures by_addition { (s : NodeState) (tx : List ℕ) → IsConversing s → IsHeld (held tx) → IsConversing (adds s tx).turn.state }
-    ensures by_round { (s : NodeState) → IsConversing s → IsConversing (begins s).turn.state }
+    ensures opening { (c : Config) (pool : List Transaction) → IsConversing (opening_state c pool) }
+    ensures by_message { (s : NodeState) (m : Message) → IsConversing s → IsMessage m → IsConversing (on_message s m).state }
+    ensures by_addition { (s : NodeState) (tx : List ℕ) → IsConversing s → IsTransaction (transaction_of tx) → IsConversing (on_addition s tx).turn.state }
+    ensures by_round { (s : NodeState) → IsConversing s → IsConversing (on_start s).turn.state }
 {}
 
 /// All that is to hold of a node holds of a new one. It does nothing when it runs: its contract is the theorem.
 pub fn new_nodes_are_nodes()
-    ensures { (c : Config) (pool : List Held) → IsConfig c → IsPool pool → IsNode (opening_state c pool) }
+    ensures { (c : Config) (pool : List Transaction) → IsConfig c → IsPool pool → IsNode (opening_state c pool) }
 {}
 
 /// All that is to hold of a node holds behind each of its steps, also where the node ends: by messages that may be sent, by
 /// any bytes of its peer, by an addition of bytes that may be a transaction, and by the start of a round. It does nothing when
 /// it runs: its contract is the theorem.
 pub fn nodes_stay_nodes()
-    ensures by_message { (s : NodeState) (m : Message) → IsNode s → IsMessage m → IsNode (takes s m).state }
-    ensures by_messages { (s : NodeState) (ms : List Message) → IsNode s → AllByRecursion IsMessage ms → IsNode (takes_all s ms).state }
-    ensures by_piece { (s : NodeState) (piece : List ℕ) → IsNode s → IsTrue (are_bytes piece) → IsNode (receives s piece).state }
-    ensures by_addition { (s : NodeState) (tx : List ℕ) → IsNode s → IsTrue (is_tx_length (length tx) && are_bytes tx) → IsNode (adds s tx).turn.state }
-    ensures by_round { (s : NodeState) → IsNode s → IsNode (begins s).turn.state }
+    ensures by_message { (s : NodeState) (m : Message) → IsNode s → IsMessage m → IsNode (on_message s m).state }
+    ensures by_messages { (s : NodeState) (ms : List Message) → IsNode s → AllByRecursion IsMessage ms → IsNode (on_messages s ms).state }
+    ensures by_piece { (s : NodeState) (piece : List ℕ) → IsNode s → IsTrue (are_bytes piece) → IsNode (on_piece s piece).state }
+    ensures by_addition { (s : NodeState) (tx : List ℕ) → IsNode s → IsTrue (is_tx_length (length tx) && are_bytes tx) → IsNode (on_addition s tx).turn.state }
+    ensures by_round { (s : NodeState) → IsNode s → IsNode (on_start s).turn.state }
 {}
 
 /// Each message that a node sends for many messages in a row may be sent, and so may each that it sends for a piece of bytes,
 /// whatever these are. It does nothing when it runs: its contract is the theorem.
 pub fn answers_to_pieces_may_be_sent()
-    ensures by_messages { (s : NodeState) (ms : List Message) → IsNode s → AllByRecursion IsMessage ms → AllByRecursion IsMessage (takes_all s ms).out }
-    ensures by_piece { (s : NodeState) (piece : List ℕ) → IsNode s → IsTrue (are_bytes piece) → AllByRecursion IsMessage (receives s piece).out }
+    ensures by_messages { (s : NodeState) (ms : List Message) → IsNode s → AllByRecursion IsMessage ms → AllByRecursion IsMessage (on_messages s ms).out }
+    ensures by_piece { (s : NodeState) (piece : List ℕ) → IsNode s → IsTrue (are_bytes piece) → AllByRecursion IsMessage (on_piece s piece).out }
 {}

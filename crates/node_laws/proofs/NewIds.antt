@@ -2,10 +2,10 @@
 use Rattle.std.proofs.Common.{◌≡◌, ◌||◌, Bool, true, false, not, List, [], ◌∷◌, filter, cond, if◌then◌else◌, refl, sym, ap, ◌∙◌}
 use Rattle.std.proofs.lemmas.Slice.Eq.{bytes_eq-Decides}
 use Rattle.base_types.specs.declared.lists.Hash32.{Hash32}
-use Rattle.pool_rules.specs.Pools.{same_id, without}
+use Rattle.pool_rules.specs.Pools.{is_same_id, without_id}
 use Rattle.node_rules.specs.Inventory.{new_ids}
 
-same_one : (a b : Hash32) → same_id a b ≡ true → a ≡ b
+same_one : (a b : Hash32) → is_same_id a b ≡ true → a ≡ b
 same_one a b h = ap (λ bytes. record { 0 = bytes }) ((bytes_eq-Decides a.0 b.0).0 h)
 
 module _ {A : Type 0} (p : A → Bool) where
@@ -43,26 +43,26 @@ module _ {A : Type 0} (p : A → Bool) where
 
 module _ (known : Hash32 → Bool) (id : Hash32) where
   abbrev knows : Hash32 → Bool
-  knows other = known other || same_id other id
+  knows other = known other || is_same_id other id
 
   abbrev old : List Hash32 → List Hash32
   old ids = new_ids known ids
 
-  front_by : (k e : Bool) (x : Hash32) (xs : List Hash32) → known x ≡ k → same_id x id ≡ e → new_ids knows xs ≡ without (old xs) id
-      → (if k || e then new_ids knows xs else x ∷ without (new_ids knows xs) x) ≡ without (if k then old xs else x ∷ without (old xs) x) id
+  front_by : (k e : Bool) (x : Hash32) (xs : List Hash32) → known x ≡ k → is_same_id x id ≡ e → new_ids knows xs ≡ without_id (old xs) id
+      → (if k || e then new_ids knows xs else x ∷ without_id (new_ids knows xs) x) ≡ without_id (if k then old xs else x ∷ without_id (old xs) x) id
   front_by true e x xs ek ee more = more
   front_by false true x xs ek ee more =
       more
-      ∙ (sym (filter_twice (λ other. not (same_id other id)) (old xs))
-      ∙ (ap (λ y. without (without (old xs) y) id) (sym (same_one x id ee))
-      ∙ sym (filter_no (λ other. not (same_id other id)) x (without (old xs) x) (ap not ee))))
+      ∙ (sym (filter_twice (λ other. not (is_same_id other id)) (old xs))
+      ∙ (ap (λ y. without_id (without_id (old xs) y) id) (sym (same_one x id ee))
+      ∙ sym (filter_no (λ other. not (is_same_id other id)) x (without_id (old xs) x) (ap not ee))))
   front_by false false x xs ek ee more =
-      ap (λ ys. x ∷ without ys x) more
-      ∙ (ap (λ ys. x ∷ ys) (filter_swap (λ other. not (same_id other x)) (λ other. not (same_id other id)) (old xs))
-      ∙ sym (filter_yes (λ other. not (same_id other id)) x (without (old xs) x) (ap not ee)))
+      ap (λ ys. x ∷ without_id ys x) more
+      ∙ (ap (λ ys. x ∷ ys) (filter_swap (λ other. not (is_same_id other x)) (λ other. not (is_same_id other id)) (old xs))
+      ∙ sym (filter_yes (λ other. not (is_same_id other id)) x (without_id (old xs) x) (ap not ee)))
 
   -- where one id more is known, those that are new are the others
-  pub new_ids-known : (ids : List Hash32) → new_ids knows ids ≡ without (old ids) id
+  pub new_ids-known : (ids : List Hash32) → new_ids knows ids ≡ without_id (old ids) id
   unfolding new_ids
   new_ids-known [] = refl
-  new_ids-known (x ∷ xs) = front_by (known x) (same_id x id) x xs refl refl (new_ids-known xs)
+  new_ids-known (x ∷ xs) = front_by (known x) (is_same_id x id) x xs refl refl (new_ids-known xs)

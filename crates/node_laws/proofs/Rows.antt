@@ -10,23 +10,23 @@ use Rattle.wire_rules.specs.declared.name.Name.{Name}
 use Rattle.wire_rules.specs.declared.name.Name.TheVariants as name
 use Rattle.wire_rules.specs.declared.phase.Phase.{Phase}
 use Rattle.wire_rules.specs.declared.phase.Phase.TheVariants as phase
-use Rattle.pool_rules.specs.Pools.{Held, held, listed, in_pool, bytes_fit}
+use Rattle.pool_rules.specs.Pools.{Transaction, transaction_of, is_listed, is_in_pool, has_byte_room}
 use Rattle.pool_rules.specs.Snapshots.{Member}
 use Rattle.pool_rules.specs.declared.limits.TheConstants.{POOL_LIMIT}
 use Rattle.pool_rules.specs.declared.report.Report.{Report}
-use Rattle.node_rules.specs.Accepter.{accepter_reqrecon, accepter_extension, accepter_diff, reqrecon_by, extended_by, extension_after, diff_by, diff_after, diff_fault}
-use Rattle.node_rules.specs.Barrier.{ends_barrier, pong_by}
-use Rattle.node_rules.specs.Handshake.{version_by, out_of_place, in_greeting, offer_by, verack_by, in_greeted, declines}
-use Rattle.node_rules.specs.Inventory.{news, without_announced, inv_by, came}
-use Rattle.node_rules.specs.Opener.{opener_sketch, sketch_by, unless, length_fault, after_sketch, joined_answer, decided, unanswered, may_extend, joined, left_over}
-use Rattle.node_rules.specs.Stages.{asked_for, given, is_idle}
+use Rattle.node_rules.specs.Accepter.{accepter_reqrecon, accepter_extension, accepter_diff, reqrecon_by, extension_by, extension_after, diff_by, diff_after, diff_fault}
+use Rattle.node_rules.specs.Barrier.{is_barrier_end, pong_by}
+use Rattle.node_rules.specs.Handshake.{version_by, on_unexpected, in_greeting, offer_by, verack_by, in_greeted, has_no_relay}
+use Rattle.node_rules.specs.Inventory.{unknown_ids, without_announced, inv_by, transaction_by}
+use Rattle.node_rules.specs.Opener.{opener_sketch, sketch_by, move_or_fault, length_fault, after_sketch, answer_to_sketch, on_decoding, on_no_answer, has_extension_left, round_after_sketch, remaining_set}
+use Rattle.node_rules.specs.Stages.{requested_extensions, sent_extensions, is_idle}
 use Rattle.node_rules.specs.State.{NodeState, Machine, Initiator, Round, Inbox, Offer, initiator_of, extensions_allowed, taken_room}
-use Rattle.node_rules.specs.Steps.{opener_row, accepter_row, relays, in_its_phase, takes, with_inbox}
-use Rattle.node_rules.specs.Turns.{Move, Response, Turn, passed, refused, moved, after_response}
+use Rattle.node_rules.specs.Steps.{opener_row, accepter_row, in_relay, in_phase, on_message, with_inbox}
+use Rattle.node_rules.specs.Turns.{Move, Response, Turn, unchanged, refusal, after_move, after_response}
 use Rattle.node_rules.specs.declared.config.Role.{Role}
 use Rattle.node_rules.specs.declared.config.Role.TheVariants as role
 use Rattle.node_rules.specs.declared.end.End.{End}
-use Rattle.node_laws.specs.Inboxes.{in_inbox}
+use Rattle.node_laws.specs.Inboxes.{turn_with_inbox}
 use Rattle.node_laws.specs.Later.{IsLater}
 
 -- ---- states
@@ -60,40 +60,40 @@ abbrev ResponseGrows : Machine → Result Response End → Type 0
 ResponseGrows m (Ok r) = HasGrown m.reports r.machine.reports
 ResponseGrows m (Err e) = Unit {0}
 
-unanswered-grown : (may : Bool) (i : Initiator) (r : Round) (n : ℕ) (set : List Member) → HasGrown i.machine.reports (unanswered may i r n set).initiator.machine.reports
-unfolding unanswered
-unanswered-grown true i r n set = grown_same i.machine.reports
-unanswered-grown false i r n set = record { more = _; grown = refl }
+on_no_answer-grown : (may : Bool) (i : Initiator) (r : Round) (n : ℕ) (set : List Member) → HasGrown i.machine.reports (on_no_answer may i r n set).initiator.machine.reports
+unfolding on_no_answer
+on_no_answer-grown true i r n set = grown_same i.machine.reports
+on_no_answer-grown false i r n set = record { more = _; grown = refl }
 
-decided-grown : (answer : Option (List ℕ)) (i : Initiator) (r : Round) (n : ℕ) (set : List Member) → HasGrown i.machine.reports (decided answer i r n set).initiator.machine.reports
-unfolding decided
-decided-grown (Some es) i r n set = record { more = _; grown = refl }
-decided-grown None i r n set = unanswered-grown (may_extend i.machine r n) i r n set
+on_decoding-grown : (answer : Option (List ℕ)) (i : Initiator) (r : Round) (n : ℕ) (set : List Member) → HasGrown i.machine.reports (on_decoding answer i r n set).initiator.machine.reports
+unfolding on_decoding
+on_decoding-grown (Some es) i r n set = record { more = _; grown = refl }
+on_decoding-grown None i r n set = on_no_answer-grown (has_extension_left i.machine r n) i r n set
 
-unless-grown : (f : Option End) (m : Machine) (move : Move) → HasGrown m.reports move.initiator.machine.reports → MoveGrows m (unless f move)
-unless-grown None m move h = h
-unless-grown (Some e) m move h = tt
+move_or_fault-grown : (f : Option End) (m : Machine) (move : Move) → HasGrown m.reports move.initiator.machine.reports → MoveGrows m (move_or_fault f move)
+move_or_fault-grown None m move h = h
+move_or_fault-grown (Some e) m move h = tt
 
 sketch_by-grown : (answer : Option (List ℕ)) (o : Option ℕ) (i : Initiator) (set : List Member) (bytes : List ℕ) → MoveGrows i.machine (sketch_by answer o i set bytes)
 unfolding sketch_by
 sketch_by-grown answer None i set bytes = tt
 sketch_by-grown answer (Some n) i set bytes =
-    unless-grown (length_fault i.machine n (length bytes)) i.machine (after_sketch answer i set n bytes) (decided-grown answer i (joined i.machine set n bytes) n (left_over n set))
+    move_or_fault-grown (length_fault i.machine n (length bytes)) i.machine (after_sketch answer i set n bytes) (on_decoding-grown answer i (round_after_sketch i.machine set n bytes) n (remaining_set n set))
 
 reqrecon_by-grown : (idle : Bool) (m : Machine) (set : List Member) (size q : ℕ) → ResponseGrows m (reqrecon_by idle m set size q)
 unfolding reqrecon_by
 reqrecon_by-grown true m set size q = grown_same m.reports
 reqrecon_by-grown false m set size q = tt
 
-extended_by-grown : (may : Bool) (m : Machine) (n : ℕ) → ResponseGrows m (extended_by may m n)
-unfolding extended_by
-extended_by-grown true m n = grown_same m.reports
-extended_by-grown false m n = tt
+extension_by-grown : (may : Bool) (m : Machine) (n : ℕ) → ResponseGrows m (extension_by may m n)
+unfolding extension_by
+extension_by-grown true m n = grown_same m.reports
+extension_by-grown false m n = tt
 
 extension_after-grown : (o : Option ℕ) (m : Machine) → ResponseGrows m (extension_after o m)
 unfolding extension_after
 extension_after-grown None m = tt
-extension_after-grown (Some n) m = extended_by-grown (nat_lt n (extensions_allowed m)) m n
+extension_after-grown (Some n) m = extension_by-grown (nat_lt n (extensions_allowed m)) m n
 
 diff_by-grown : (f : Option End) (m : Machine) (n : ℕ) (success : Bool) (asks : List ℕ) → ResponseGrows m (diff_by f m n success asks)
 unfolding diff_by
@@ -109,11 +109,11 @@ diff_after-grown (Some n) m success asks = diff_by-grown (diff_fault success m.r
 
 -- t is a step of s, and u the same step of s with another inbox
 pub record IsStep (s : NodeState) (i : Inbox) (t u : Turn) : Type 0 where
-  pub same : u ≡ in_inbox t i
+  pub same : u ≡ turn_with_inbox t i
   pub later : IsLater s t.state
-  pub refuses : s.ended ≡ None → (e : End) → t.state.ended ≡ Some e → t ≡ refused s e
+  pub refuses : s.ended ≡ None → (e : End) → t.state.ended ≡ Some e → t ≡ refusal s e
 
-pub not_ended : (s : NodeState) (t : Turn) → t.state.ended ≡ s.ended → s.ended ≡ None → (e : End) → t.state.ended ≡ Some e → t ≡ refused s e
+pub not_ended : (s : NodeState) (t : Turn) → t.state.ended ≡ s.ended → s.ended ≡ None → (e : End) → t.state.ended ≡ Some e → t ≡ refusal s e
 not_ended s t same going e h = absurd (let apart : None ≡ Some e = sym going ∙ (sym same ∙ h) in cc)
 
 module _ (s : NodeState) (i : Inbox) where
@@ -121,18 +121,18 @@ module _ (s : NodeState) (i : Inbox) where
   v = with_inbox s i
 
   -- a row that leaves pool, reports and end as they are
-  pub leaves : (t u : Turn) → u ≡ in_inbox t i → t.state.config ≡ s.config → t.state.pool ≡ s.pool → t.state.machine.reports ≡ s.machine.reports → t.state.ended ≡ s.ended → IsStep s i t u
+  pub leaves : (t u : Turn) → u ≡ turn_with_inbox t i → t.state.config ≡ s.config → t.state.pool ≡ s.pool → t.state.machine.reports ≡ s.machine.reports → t.state.ended ≡ s.ended → IsStep s i t u
   leaves t u same c p r e = record { same = same; later = later_same s t.state c p r; refuses = not_ended s t e }
 
-  pub stays : IsStep s i (passed s) (passed v)
-  stays = leaves (passed s) (passed v) refl refl refl refl refl
+  pub stays : IsStep s i (unchanged s) (unchanged v)
+  stays = leaves (unchanged s) (unchanged v) refl refl refl refl refl
 
-  pub ends : (e : End) → IsStep s i (refused s e) (refused v e)
-  ends x = record { same = refl; later = later_same s (refused s x).state refl refl refl; refuses = λ going e h. let same : x ≡ e = cc in ap (refused s) same }
+  pub ends : (e : End) → IsStep s i (refusal s e) (refusal v e)
+  ends x = record { same = refl; later = later_same s (refusal s x).state refl refl refl; refuses = λ going e h. let same : x ≡ e = cc in ap (refusal s) same }
 
-  out_of_place-step : (n : Option Name) → IsStep s i (out_of_place s n) (out_of_place v n)
-  out_of_place-step (Some n) = ends _
-  out_of_place-step None = stays
+  on_unexpected-step : (n : Option Name) → IsStep s i (on_unexpected s n) (on_unexpected v n)
+  on_unexpected-step (Some n) = ends _
+  on_unexpected-step None = stays
 
   version_by-step : (old silent : Bool) (m : VersionMsg) → IsStep s i (version_by old silent s m) (version_by old silent v m)
   unfolding version_by
@@ -142,10 +142,10 @@ module _ (s : NodeState) (i : Inbox) where
 
   in_greeting-step : (m : Message) → IsStep s i (in_greeting s m) (in_greeting v m)
   unfolding in_greeting
-  in_greeting-step (message.Version m) = version_by-step (int_lt m.version (pos 70016)) (declines m.relay) m
+  in_greeting-step (message.Version m) = version_by-step (int_lt m.version (pos 70016)) (has_no_relay m.relay) m
   in_greeting-step (message.Ping n) = stays
   in_greeting-step (message.Pong n) = stays
-  in_greeting-step other = out_of_place-step (name_of other)
+  in_greeting-step other = on_unexpected-step (name_of other)
 
   offer_by-step : (zero again : Bool) (offer : Offer) → IsStep s i (offer_by zero again s offer) (offer_by zero again v offer)
   unfolding offer_by
@@ -166,19 +166,19 @@ module _ (s : NodeState) (i : Inbox) where
   in_greeted-step message.Verack = verack_by-step s.peer.relays_by_id s.peer.offer
   in_greeted-step (message.Ping n) = stays
   in_greeted-step (message.Pong n) = stays
-  in_greeted-step other = out_of_place-step (name_of other)
+  in_greeted-step other = on_unexpected-step (name_of other)
 
-  moved-step : (row : Result Move End) → MoveGrows s.machine row → IsStep s i (moved s row) (moved v row)
-  moved-step (Ok m) h = record {
+  after_move-step : (row : Result Move End) → MoveGrows s.machine row → IsStep s i (after_move s row) (after_move v row)
+  after_move-step (Ok m) h = record {
     same = refl;
     later = record { config = refl; new_held = []; pool = sym (append-nil s.pool); new_reports = h.more; reports = h.grown };
-    refuses = not_ended s (moved s (Ok m)) refl;
+    refuses = not_ended s (after_move s (Ok m)) refl;
   }
-  moved-step (Err e) h = ends e
+  after_move-step (Err e) h = ends e
 
   opener_row-step : (r : Role) (plain : Bool) (n : Name) (row : Result Move End) → MoveGrows s.machine row → IsStep s i (opener_row r plain n s row) (opener_row r plain n v row)
   unfolding opener_row
-  opener_row-step role.Opener false n row h = moved-step row h
+  opener_row-step role.Opener false n row h = after_move-step row h
   opener_row-step role.Opener true n row h = ends _
   opener_row-step role.Accepter plain n row h = ends _
 
@@ -208,46 +208,46 @@ module _ (s : NodeState) (i : Inbox) where
   inv_by-step false role.Opener set ids = leaves (inv_by false role.Opener s set ids) (inv_by false role.Opener v set ids) refl refl refl refl refl
   inv_by-step false role.Accepter set ids = leaves (inv_by false role.Accepter s set ids) (inv_by false role.Accepter v set ids) refl refl refl refl refl
 
-  came-step : (asked pooled fits : Bool) (t : Held) → IsStep s i (came asked pooled fits s t) (came asked pooled fits v t)
-  unfolding came
-  came-step false pooled fits t = stays
-  came-step true true fits t = leaves (came true true fits s t) (came true true fits v t) refl refl refl refl refl
-  came-step true false false t = ends _
-  came-step true false true t = record {
+  transaction_by-step : (asked pooled fits : Bool) (t : Transaction) → IsStep s i (transaction_by asked pooled fits s t) (transaction_by asked pooled fits v t)
+  unfolding transaction_by
+  transaction_by-step false pooled fits t = stays
+  transaction_by-step true true fits t = leaves (transaction_by true true fits s t) (transaction_by true true fits v t) refl refl refl refl refl
+  transaction_by-step true false false t = ends _
+  transaction_by-step true false true t = record {
     same = refl;
     later = record { config = refl; new_held = t ∷ []; pool = refl; new_reports = []; reports = sym (append-nil s.machine.reports) };
-    refuses = not_ended s (came true false true s t) refl;
+    refuses = not_ended s (transaction_by true false true s t) refl;
   }
 
-  relays-step : (m : Message) → IsStep s i (relays s m) (relays v m)
-  unfolding relays
-  relays-step (message.Version m) = ends _
-  relays-step message.Verack = ends _
-  relays-step message.WtxidRelay = ends _
-  relays-step (message.SendTxRcncl version salt) = ends _
-  relays-step (message.ReqRecon size q) =
+  in_relay-step : (m : Message) → IsStep s i (in_relay s m) (in_relay v m)
+  unfolding in_relay
+  in_relay-step (message.Version m) = ends _
+  in_relay-step message.Verack = ends _
+  in_relay-step message.WtxidRelay = ends _
+  in_relay-step (message.SendTxRcncl version salt) = ends _
+  in_relay-step (message.ReqRecon size q) =
       accepter_row-step s.config.role s.plain name.ReqRecon [] (accepter_reqrecon s.machine s.set size q) (reqrecon_by-grown (is_idle s.machine.phase) s.machine s.set size q)
-  relays-step (message.Sketch bytes) =
+  in_relay-step (message.Sketch bytes) =
       opener_row-step s.config.role s.plain name.Sketch (opener_sketch (initiator_of s) s.set bytes)
-      (sketch_by-grown (joined_answer (asked_for s.machine.phase) s.machine s.set bytes) (asked_for s.machine.phase) (initiator_of s) s.set bytes)
-  relays-step message.ReqSketchExt =
-      accepter_row-step s.config.role s.plain name.ReqSketchExt s.set (accepter_extension s.machine) (extension_after-grown (given s.machine.phase) s.machine)
-  relays-step (message.ReconcilDiff success asks) =
-      accepter_row-step s.config.role s.plain name.ReconcilDiff s.set (accepter_diff s.machine success asks) (diff_after-grown (given s.machine.phase) s.machine success asks)
-  relays-step (message.Inv es) = inv_by-step (nat_lt POOL_LIMIT (taken_room s + length (news s es))) s.config.role (without_announced s.set es) (news s es)
-  relays-step (message.GetData es) = leaves (relays s (message.GetData es)) (relays v (message.GetData es)) refl refl refl refl refl
-  relays-step (message.NotFound es) = leaves (relays s (message.NotFound es)) (relays v (message.NotFound es)) refl refl refl refl refl
-  relays-step (message.Tx tx) = came-step (listed s.wants.asked (held tx).id) (in_pool s.pool (held tx).id) (bytes_fit s.pool (held tx).bytes) (held tx)
-  relays-step (message.Ping n) = leaves (relays s (message.Ping n)) (relays v (message.Ping n)) refl refl refl refl refl
-  relays-step (message.Pong n) = pong_by-step s.config.role (ends_barrier (initiator_of s) n)
-  relays-step (message.Other command payload) = stays
+      (sketch_by-grown (answer_to_sketch (requested_extensions s.machine.phase) s.machine s.set bytes) (requested_extensions s.machine.phase) (initiator_of s) s.set bytes)
+  in_relay-step message.ReqSketchExt =
+      accepter_row-step s.config.role s.plain name.ReqSketchExt s.set (accepter_extension s.machine) (extension_after-grown (sent_extensions s.machine.phase) s.machine)
+  in_relay-step (message.ReconcilDiff success asks) =
+      accepter_row-step s.config.role s.plain name.ReconcilDiff s.set (accepter_diff s.machine success asks) (diff_after-grown (sent_extensions s.machine.phase) s.machine success asks)
+  in_relay-step (message.Inv es) = inv_by-step (nat_lt POOL_LIMIT (taken_room s + length (unknown_ids s es))) s.config.role (without_announced s.set es) (unknown_ids s es)
+  in_relay-step (message.GetData es) = leaves (in_relay s (message.GetData es)) (in_relay v (message.GetData es)) refl refl refl refl refl
+  in_relay-step (message.NotFound es) = leaves (in_relay s (message.NotFound es)) (in_relay v (message.NotFound es)) refl refl refl refl refl
+  in_relay-step (message.Tx tx) = transaction_by-step (is_listed s.wants.asked (transaction_of tx).id) (is_in_pool s.pool (transaction_of tx).id) (has_byte_room s.pool (transaction_of tx).bytes) (transaction_of tx)
+  in_relay-step (message.Ping n) = leaves (in_relay s (message.Ping n)) (in_relay v (message.Ping n)) refl refl refl refl refl
+  in_relay-step (message.Pong n) = pong_by-step s.config.role (is_barrier_end (initiator_of s) n)
+  in_relay-step (message.Other command payload) = stays
 
-  in_its_phase-step : (p : Phase) (m : Message) → IsStep s i (in_its_phase p s m) (in_its_phase p v m)
-  unfolding in_its_phase
-  in_its_phase-step phase.Greeting m = in_greeting-step m
-  in_its_phase-step phase.Greeted m = in_greeted-step m
-  in_its_phase-step other m = relays-step m
+  in_phase-step : (p : Phase) (m : Message) → IsStep s i (in_phase p s m) (in_phase p v m)
+  unfolding in_phase
+  in_phase-step phase.Greeting m = in_greeting-step m
+  in_phase-step phase.Greeted m = in_greeted-step m
+  in_phase-step other m = in_relay-step m
 
   -- a message
-  pub takes-step : (m : Message) → IsStep s i (takes s m) (takes v m)
-  takes-step m = in_its_phase-step s.machine.phase m
+  pub on_message-step : (m : Message) → IsStep s i (on_message s m) (on_message v m)
+  on_message-step m = in_phase-step s.machine.phase m

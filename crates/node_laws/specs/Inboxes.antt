@@ -4,5 +4,5 @@ use Rattle.node_rules.specs.Steps.{with_inbox}
 use Rattle.node_rules.specs.Turns.{Turn}
 
 -- the step, with these bytes received behind it
-abbrev pub in_inbox : Turn → Inbox → Turn
-in_inbox t i = record t { state = with_inbox t.state i }
+abbrev pub turn_with_inbox : Turn → Inbox → Turn
+turn_with_inbox t i = record t { state = with_inbox t.state i }

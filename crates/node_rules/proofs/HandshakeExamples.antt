@@ -3,7 +3,7 @@ use Rattle.std.proofs.Common.{◌≡◌, ℕ, List, [], ◌∷◌, ◌++◌, ref
 use Rattle.std.specs.Prelude.{codes}
 use Rattle.id_rules.specs.Ids.{keys_of}
 use Rattle.id_rules.proofs.Samples.{from_digits}
-use Rattle.wire_rules.specs.Layout.{on_wire}
+use Rattle.wire_rules.specs.Layout.{wire_bytes}
 use Rattle.wire_rules.specs.declared.faults.PayloadKind.TheVariants as payload
 use Rattle.wire_rules.specs.declared.frame.FrameFault.TheVariants as frame
 use Rattle.wire_rules.specs.declared.message.Message.{Message}
@@ -15,7 +15,7 @@ use Rattle.wire_rules.proofs.Samples.{magic}
 use Rattle.pool_rules.specs.Snapshots.{members}
 use Rattle.node_rules.specs.Handshake.{own_version, introduction, opening_messages}
 use Rattle.node_rules.specs.State.{opening_state}
-use Rattle.node_rules.specs.Steps.{takes_all, receives}
+use Rattle.node_rules.specs.Steps.{on_messages, on_piece}
 use Rattle.node_rules.specs.Turns.{inv_of}
 use Rattle.node_rules.specs.declared.config.Role.TheVariants as role
 use Rattle.node_rules.specs.declared.end.End.TheVariants as end
@@ -52,7 +52,7 @@ accepter_says : sent_for (new_accepter (hello ∷ [])) (introduced 1) ≡ messag
 unfolding stepping
 accepter_says = refl
 
-accepter_through : (takes_all (new_accepter (hello ∷ [])) (introduced 1)).state ≡ record (new_accepter (hello ∷ [])) {
+accepter_through : (on_messages (new_accepter (hello ∷ [])) (introduced 1)).state ≡ record (new_accepter (hello ∷ [])) {
   machine = record (new_accepter []).machine { phase = phase.Idle; level = 2 };
   set = members (keys_of 1 2) (hello.id ∷ []);
   peer = record { relays_by_id = true; offer = Some (record { version = 2; salt = 1 }) };
@@ -66,7 +66,7 @@ unfolding stepping
 opener_says = refl
 
 -- without `sendtxrcncl` a node is plain: it has no set, and announces all of its pool
-plain : takes_all (new_accepter (hello ∷ abc ∷ [])) (v ∷ w ∷ k ∷ []) ≡ record {
+plain : on_messages (new_accepter (hello ∷ abc ∷ [])) (v ∷ w ∷ k ∷ []) ≡ record {
   state = record (new_accepter (hello ∷ abc ∷ [])) {
     machine = record (new_accepter []).machine { phase = phase.Idle };
     plain = true;
@@ -79,7 +79,7 @@ plain = refl
 
 -- the level is the lesser of both highest versions. A version above the own one counts as that
 abbrev level_with : ℕ → ℕ → ℕ
-level_with own peers = (takes_all (opening_state (config_with own role.Accepter 2) []) (v ∷ w ∷ message.SendTxRcncl peers 1 ∷ k ∷ [])).state.machine.level
+level_with own peers = (on_messages (opening_state (config_with own role.Accepter 2) []) (v ∷ w ∷ message.SendTxRcncl peers 1 ∷ k ∷ [])).state.machine.level
 
 levels : (level_with 1 1 ≡ 1) × (level_with 1 2 ≡ 1) × (level_with 2 1 ≡ 1) × (level_with 2 2 ≡ 2) × (level_with 2 3 ≡ 2)
 unfolding stepping
@@ -147,24 +147,24 @@ sketch_to_accepter = refl
 abbrev too_long_header : List ℕ
 too_long_header = from_digits (codes "f9beb4d9747800000000000000000000" ++ codes "01093d0000000000")
 
-too_long : (receives (new_accepter []) (on_wire magic (introduced 1) ++ too_long_header)).state.ended ≡ Some (end.Frame (frame.TooLong 203 4000001))
+too_long : (on_piece (new_accepter []) (wire_bytes magic (introduced 1) ++ too_long_header)).state.ended ≡ Some (end.Frame (frame.TooLong 203 4000001))
 unfolding receiving
 too_long = refl
 
-too_long_drops : (receives (new_accepter []) (on_wire magic (introduced 1) ++ too_long_header)).state.inbox.unread ≡ []
+too_long_drops : (on_piece (new_accepter []) (wire_bytes magic (introduced 1) ++ too_long_header)).state.inbox.unread ≡ []
 unfolding receiving
 too_long_drops = refl
 
-waits_for_header : (receives (new_accepter []) (on_wire magic (introduced 1) ++ take 23 too_long_header)).state.ended ≡ None
+waits_for_header : (on_piece (new_accepter []) (wire_bytes magic (introduced 1) ++ take 23 too_long_header)).state.ended ≡ None
 unfolding receiving
 waits_for_header = refl
 
--- a `sketch` whose count takes too many bytes is refused for its payload, before its place in the phase is judged
-not_minimal : (receives (new_accepter []) (on_wire magic (introduced 1) ++ from_digits (codes "f9beb4d9736b6574636800000000000007000000784d7a22fd040000000000"))).state.ended ≡ Some (end.Payload (record { command = name.Sketch; at = 0; kind = payload.NotMinimal }))
+-- a `sketch` whose count takes too many bytes is refused for its payload, before it is judged by the phase
+not_minimal : (on_piece (new_accepter []) (wire_bytes magic (introduced 1) ++ from_digits (codes "f9beb4d9736b6574636800000000000007000000784d7a22fd040000000000"))).state.ended ≡ Some (end.Payload (record { command = name.Sketch; at = 0; kind = payload.NotMinimal }))
 unfolding receiving
 not_minimal = refl
 
 -- an ended node takes no more
-ended_stays : receives (record (new_accepter []) { ended = Some end.PoolFull }) (1 ∷ []) ≡ record { state = record (new_accepter []) { ended = Some end.PoolFull }; out = [] }
+ended_stays : on_piece (record (new_accepter []) { ended = Some end.PoolFull }) (1 ∷ []) ≡ record { state = record (new_accepter []) { ended = Some end.PoolFull }; out = [] }
 unfolding receiving
 ended_stays = refl

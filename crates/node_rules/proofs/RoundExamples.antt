@@ -2,7 +2,7 @@
 -- it the answer is handed in, and that it is an answer is computed beside it.
 use Rattle.std.proofs.Common.{◌≡◌, ℕ, List, [], ◌∷◌, ◌++◌, refl, true, false, Some, None, Ok, Err, replicate, map, length, lit<, lit≤}
 use Rattle.base_types.specs.declared.lists.Hash32.{Hash32}
-use Rattle.sketch_rules.specs.Answers.{Answer, Rises}
+use Rattle.sketch_rules.specs.Answers.{Answer, IsAscending}
 use Rattle.wire_rules.specs.Layout.{payload_of}
 use Rattle.wire_rules.specs.declared.message.Message.{Message}
 use Rattle.wire_rules.specs.declared.message.Message.TheVariants as message
@@ -15,9 +15,9 @@ use Rattle.pool_rules.specs.declared.report.Ending.TheVariants as ending
 use Rattle.pool_rules.specs.declared.report.Report.{Report}
 use Rattle.node_rules.specs.State.{Machine, Initiator, Round, NodeState, no_round, first_requests}
 use Rattle.node_rules.specs.Turns.{Move, Turn, entry}
-use Rattle.node_rules.specs.Opener.{with_round, combined, joined, sketch_by, opener_sketch}
+use Rattle.node_rules.specs.Opener.{with_round, difference_sketch, round_after_sketch, sketch_by, opener_sketch}
 use Rattle.node_rules.specs.Accepter.{accepter_diff, accepter_extension}
-use Rattle.node_rules.specs.Steps.{begins, takes, takes_all}
+use Rattle.node_rules.specs.Steps.{on_start, on_message, on_messages}
 use Rattle.node_rules.specs.declared.end.End.TheVariants as end
 use Rattle.node_rules.proofs.Samples.{moving, stepping, new_opener, new_accepter, introduced, end_of}
 
@@ -40,39 +40,39 @@ other_id = record { 0 = [] }
 abbrev three : List Member
 three = member hello_id 1 ∷ member abc_id 2 ∷ member other_id 3 ∷ []
 
-abbrev started : Machine
-started = machine_in phase.Waiting
+abbrev after_start : Machine
+after_start = machine_in phase.Waiting
 
-begun : with_round (record { machine = machine_in phase.Idle; requests = first_requests }) phase.Waiting ≡ initiator_in started
+begun : with_round (record { machine = machine_in phase.Idle; requests = first_requests }) phase.Waiting ≡ initiator_in after_start
 begun = refl
 
 -- its first sketch is 8 zero bytes. What both differ in has the sketch 0, 6, which is of no set of at most two elements
 abbrev first : Round
 first = record { snapshot = three; capacity = 2; sums = 0 ∷ 0 ∷ [] }
 
-first_joined : joined started three 0 (replicate 8 0) ≡ first
+first_joined : round_after_sketch after_start three 0 (replicate 8 0) ≡ first
 unfolding moving
 first_joined = refl
 
-first_combined : combined first ≡ 0 ∷ 6 ∷ []
+first_combined : difference_sketch first ≡ 0 ∷ 6 ∷ []
 unfolding moving
 first_combined = refl
 
 -- so an extension is asked for
 abbrev extending : Machine
-extending = record started { phase = phase.WaitingExt; round = first }
+extending = record after_start { phase = phase.WaitingExt; round = first }
 
-first_unanswered : sketch_by None (Some 0) (initiator_in started) three (replicate 8 0) ≡ Ok (record { initiator = initiator_in extending; set = []; out = message.ReqSketchExt ∷ [] })
+first_unanswered : sketch_by None (Some 0) (initiator_in after_start) three (replicate 8 0) ≡ Ok (record { initiator = initiator_in extending; set = []; out = message.ReqSketchExt ∷ [] })
 unfolding moving
 first_unanswered = refl
 
 -- the extension is 8 zero bytes too. The whole sketch is answered by all three: nothing is asked for, all are announced
-both_combined : combined (joined extending [] 1 (replicate 8 0)) ≡ 0 ∷ 6 ∷ 0x12 ∷ 0x7e ∷ []
+both_combined : difference_sketch (round_after_sketch extending [] 1 (replicate 8 0)) ≡ 0 ∷ 6 ∷ 0x12 ∷ 0x7e ∷ []
 unfolding moving
 both_combined = refl
 
 three_answer : Answer 32 (0 ∷ 6 ∷ 0x12 ∷ 0x7e ∷ []) (1 ∷ 2 ∷ 3 ∷ [])
-unfolding moving Rises
+unfolding moving IsAscending
 three_answer = record { rises = (lit≤ tt, lit< tt, (lit≤ tt, lit< tt, (lit≤ tt, lit< tt, tt))); few = lit≤ tt; sketched = refl }
 
 abbrev three_report : Report
@@ -91,9 +91,9 @@ abbrev empty_report : ℕ → Report
 empty_report c = record { snapshot = []; capacity = c; ending = ending.Fallback; answered = [] }
 
 abbrev empty_extending : Machine
-empty_extending = record started { phase = phase.WaitingExt; round = record { snapshot = []; capacity = 2; sums = 0 ∷ 1 ∷ [] } }
+empty_extending = record after_start { phase = phase.WaitingExt; round = record { snapshot = []; capacity = 2; sums = 0 ∷ 1 ∷ [] } }
 
-empty_first : sketch_by None (Some 0) (initiator_in started) [] (0 ∷ 0 ∷ 0 ∷ 0 ∷ 1 ∷ 0 ∷ 0 ∷ 0 ∷ []) ≡ Ok (record { initiator = initiator_in empty_extending; set = []; out = message.ReqSketchExt ∷ [] })
+empty_first : sketch_by None (Some 0) (initiator_in after_start) [] (0 ∷ 0 ∷ 0 ∷ 0 ∷ 1 ∷ 0 ∷ 0 ∷ 0 ∷ []) ≡ Ok (record { initiator = initiator_in empty_extending; set = []; out = message.ReqSketchExt ∷ [] })
 unfolding moving
 empty_first = refl
 
@@ -105,16 +105,16 @@ given_up level c = record {
   out = message.ReconcilDiff false [] ∷ message.Ping 1 ∷ [];
 }
 
-fell_back : sketch_by None (Some 1) (initiator_in empty_extending) [] (1 ∷ 0 ∷ 0 ∷ 0 ∷ 1 ∷ 0 ∷ 0 ∷ 0 ∷ []) ≡ Ok (given_up 1 2)
+on_fallback : sketch_by None (Some 1) (initiator_in empty_extending) [] (1 ∷ 0 ∷ 0 ∷ 0 ∷ 1 ∷ 0 ∷ 0 ∷ 0 ∷ []) ≡ Ok (given_up 1 2)
 unfolding moving
-fell_back = refl
+on_fallback = refl
 
 -- at the second level a second extension is asked for
 abbrev second_level : Machine → Machine
 second_level m = record m { level = 2 }
 
 abbrev empty_second : Machine
-empty_second = second_level (record started { phase = phase.WaitingExt2; round = record { snapshot = []; capacity = 2; sums = 0 ∷ 1 ∷ 1 ∷ 1 ∷ [] } })
+empty_second = second_level (record after_start { phase = phase.WaitingExt2; round = record { snapshot = []; capacity = 2; sums = 0 ∷ 1 ∷ 1 ∷ 1 ∷ [] } })
 
 second_asked : sketch_by None (Some 1) (initiator_in (second_level empty_extending)) [] (1 ∷ 0 ∷ 0 ∷ 0 ∷ 1 ∷ 0 ∷ 0 ∷ 0 ∷ []) ≡ Ok (record { initiator = initiator_in empty_second; set = []; out = message.ReqSketchExt ∷ [] })
 unfolding moving
@@ -124,12 +124,12 @@ second_asked = refl
 abbrev six : List ℕ
 six = 0x54fd1264 ∷ 0x54fd1265 ∷ 0x98110739 ∷ 0xbaa88a9e ∷ 0xccec155d ∷ 0xee5598fb ∷ []
 
-six_combined : combined (joined empty_second [] 2 (1 ∷ 0 ∷ 0 ∷ 0 ∷ 1 ∷ 0 ∷ 0 ∷ 0 ∷ 1 ∷ replicate 7 0)) ≡ 0 ∷ 1 ∷ 1 ∷ 1 ∷ 1 ∷ 1 ∷ 1 ∷ 0 ∷ []
+six_combined : difference_sketch (round_after_sketch empty_second [] 2 (1 ∷ 0 ∷ 0 ∷ 0 ∷ 1 ∷ 0 ∷ 0 ∷ 0 ∷ 1 ∷ replicate 7 0)) ≡ 0 ∷ 1 ∷ 1 ∷ 1 ∷ 1 ∷ 1 ∷ 1 ∷ 0 ∷ []
 unfolding moving
 six_combined = refl
 
 six_answer : Answer 32 (0 ∷ 1 ∷ 1 ∷ 1 ∷ 1 ∷ 1 ∷ 1 ∷ 0 ∷ []) six
-unfolding moving Rises
+unfolding moving IsAscending
 six_answer = record { rises = (lit≤ tt, lit< tt, (lit≤ tt, lit< tt, (lit≤ tt, lit< tt, (lit≤ tt, lit< tt, (lit≤ tt, lit< tt, (lit≤ tt, lit< tt, tt)))))); few = lit≤ tt; sketched = refl }
 
 second_answered : sketch_by (Some six) (Some 2) (initiator_in empty_second) [] (1 ∷ 0 ∷ 0 ∷ 0 ∷ 1 ∷ 0 ∷ 0 ∷ 0 ∷ 1 ∷ replicate 7 0) ≡ Ok (record {
@@ -158,37 +158,37 @@ short_second : opener_sketch (initiator_in empty_second) [] (replicate 8 0) ≡ 
 unfolding moving
 short_second = refl
 
-ragged_first : opener_sketch (initiator_in started) [] (replicate 5 0) ≡ Err (end.SketchLength 5 0)
+ragged_first : opener_sketch (initiator_in after_start) [] (replicate 5 0) ≡ Err (end.SketchLength 5 0)
 unfolding moving
 ragged_first = refl
 
-wide_first : opener_sketch (initiator_in started) [] (replicate 4100 0) ≡ Err (end.SketchLength 4100 0)
+wide_first : opener_sketch (initiator_in after_start) [] (replicate 4100 0) ≡ Err (end.SketchLength 4100 0)
 unfolding moving
 wide_first = refl
 
 -- an empty first sketch has no answer: all is announced at once, and the coefficient is raised
 abbrev at_start : NodeState
-at_start = (begins (takes_all (new_opener []) (introduced 2)).state).turn.state
+at_start = (on_start (on_messages (new_opener []) (introduced 2)).state).turn.state
 
-no_sketch : opener_sketch (initiator_in started) [] [] ≡ Ok (given_up 1 0)
+no_sketch : opener_sketch (initiator_in after_start) [] [] ≡ Ok (given_up 1 0)
 unfolding moving
 no_sketch = refl
 
 -- the same in a node whose round has begun
-request : (begins (takes_all (new_opener []) (introduced 2)).state).turn.out ≡ message.ReqRecon 0 8192 ∷ []
+request : (on_start (on_messages (new_opener []) (introduced 2)).state).turn.out ≡ message.ReqRecon 0 8192 ∷ []
 unfolding stepping
 request = refl
 
-no_sketch_at_node : (takes at_start (message.Sketch [])).out ≡ message.ReconcilDiff false [] ∷ message.Ping 1 ∷ []
+no_sketch_at_node : (on_message at_start (message.Sketch [])).out ≡ message.ReconcilDiff false [] ∷ message.Ping 1 ∷ []
 unfolding stepping
 no_sketch_at_node = refl
 
-ragged_at_node : (takes at_start (message.Sketch (replicate 5 0))).state.ended ≡ Some (end.SketchLength 5 0)
+ragged_at_node : (on_message at_start (message.Sketch (replicate 5 0))).state.ended ≡ Some (end.SketchLength 5 0)
 unfolding stepping
 ragged_at_node = refl
 
--- messages of the accepter have no place at an opener, and a sketch has none before a round
-request_to_opener : (takes at_start (message.ReqRecon 0 0)).state.ended ≡ Some (end.Misplaced name.ReqRecon phase.Waiting)
+-- messages for the accepter don't belong at an opener, and a sketch doesn't before a round
+request_to_opener : (on_message at_start (message.ReqRecon 0 0)).state.ended ≡ Some (end.Misplaced name.ReqRecon phase.Waiting)
 unfolding stepping
 request_to_opener = refl
 
@@ -197,11 +197,11 @@ unfolding stepping
 sketch_unasked = refl
 
 -- the round's pong ends it; another number doesn't
-behind_pong : (takes_all at_start (message.Sketch [] ∷ message.Pong 1 ∷ [])).state.machine.phase ≡ phase.Idle
+behind_pong : (on_messages at_start (message.Sketch [] ∷ message.Pong 1 ∷ [])).state.machine.phase ≡ phase.Idle
 unfolding stepping
 behind_pong = refl
 
-behind_other_pong : (takes_all at_start (message.Sketch [] ∷ message.Pong 2 ∷ [])).state.machine.phase ≡ phase.Barrier
+behind_other_pong : (on_messages at_start (message.Sketch [] ∷ message.Pong 2 ∷ [])).state.machine.phase ≡ phase.Barrier
 unfolding stepping
 behind_other_pong = refl
 
@@ -256,7 +256,7 @@ extension_again = refl
 
 -- an accepter whose snapshot has three members, at the second level: sketches of 32, 32 and 64 bytes, and then no more
 abbrev three_asked : List Message → Turn
-three_asked ms = takes_all (record (takes_all (new_accepter []) (introduced 1)).state { set = three }) (message.ReqRecon 3 0 ∷ ms)
+three_asked ms = on_messages (record (on_messages (new_accepter []) (introduced 1)).state { set = three }) (message.ReqRecon 3 0 ∷ ms)
 
 abbrev sketch_lengths : List Message → List ℕ
 sketch_lengths ms = map (λ m. length (payload_of m)) ms
@@ -276,20 +276,20 @@ thrice_extended = refl
 
 -- a request takes the set: the sketch of no members, of capacity 8, is 32 zero bytes
 abbrev asked_once : NodeState
-asked_once = (takes_all (new_accepter []) (introduced 1 ++ message.ReqRecon 0 0 ∷ [])).state
+asked_once = (on_messages (new_accepter []) (introduced 1 ++ message.ReqRecon 0 0 ∷ [])).state
 
-first_sketch : (takes (takes_all (new_accepter []) (introduced 1)).state (message.ReqRecon 0 0)).out ≡ message.Sketch (replicate 32 0) ∷ []
+first_sketch : (on_message (on_messages (new_accepter []) (introduced 1)).state (message.ReqRecon 0 0)).out ≡ message.Sketch (replicate 32 0) ∷ []
 unfolding stepping
 first_sketch = refl
 
-request_again : (takes asked_once (message.ReqRecon 0 0)).state.ended ≡ Some (end.Misplaced name.ReqRecon phase.Sent)
+request_again : (on_message asked_once (message.ReqRecon 0 0)).state.ended ≡ Some (end.Misplaced name.ReqRecon phase.Sent)
 unfolding stepping
 request_again = refl
 
-unknown_at_node : (takes asked_once (message.ReconcilDiff true (9 ∷ []))).state.ended ≡ Some (end.UnknownShortId 9)
+unknown_at_node : (on_message asked_once (message.ReconcilDiff true (9 ∷ []))).state.ended ≡ Some (end.UnknownShortId 9)
 unfolding stepping
 unknown_at_node = refl
 
-failure_at_node : (takes asked_once (message.ReconcilDiff false (1 ∷ []))).state.ended ≡ Some (end.AsksOnFailure 1)
+failure_at_node : (on_message asked_once (message.ReconcilDiff false (1 ∷ []))).state.ended ≡ Some (end.AsksOnFailure 1)
 unfolding stepping
 failure_at_node = refl

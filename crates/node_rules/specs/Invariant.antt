@@ -8,12 +8,12 @@ use Rattle.id_rules.specs.Bytes.{are_bytes, are_bytes_of, fits_signed}
 use Rattle.id_rules.specs.Ids.{KeyPair}
 use Rattle.wire_rules.specs.declared.phase.Phase.{Phase}
 use Rattle.wire_rules.specs.declared.phase.Phase.TheVariants as phase
-use Rattle.pool_rules.specs.Pools.{Held, Distinct, IsPool, listed, in_pool}
+use Rattle.pool_rules.specs.Pools.{Transaction, AreDistinctIds, IsPool, is_listed, is_in_pool}
 use Rattle.pool_rules.specs.Snapshots.{Member, member_of, ids_of, IsSet}
 use Rattle.pool_rules.specs.declared.limits.TheConstants.{POOL_LIMIT, LEAST_CAPACITY, FIRST_LIMIT}
 use Rattle.pool_rules.specs.declared.report.Report.{Report}
 use Rattle.node_rules.specs.Handshake.{level_of}
-use Rattle.node_rules.specs.Stages.{asked_for, given, capacity_after}
+use Rattle.node_rules.specs.Stages.{requested_extensions, sent_extensions, capacity_after}
 use Rattle.node_rules.specs.State.{Round, Machine, Requests, Offer, NodeState, no_round, no_wants, no_peer, first_requests, node_keys, open_wants, taken_room}
 use Rattle.node_rules.specs.declared.config.Config.{Config}
 use Rattle.node_rules.specs.declared.config.Role.{Role}
@@ -36,14 +36,14 @@ is_id id = are_bytes_of 32 id.0
 
 -- no id is wanted or asked for twice, none that is wanted is in the pool, and there is room for all
 pub record IsWanting (s : NodeState) : Type 0 where
-  pub once : Distinct (open_wants s)
-  pub unwanted : AllByRecursion (λ id. IsTrue (not (in_pool s.pool id))) s.wants.wanted
+  pub once : AreDistinctIds (open_wants s)
+  pub unwanted : AllByRecursion (λ id. IsTrue (not (is_in_pool s.pool id))) s.wants.wanted
   pub room : taken_room s ≤ POOL_LIMIT
 
 -- each transaction is served once, from the pool
 pub record IsServing (s : NodeState) : Type 0 where
-  pub once : Distinct s.wants.served
-  pub pooled : AllByRecursion (λ id. IsTrue (in_pool s.pool id)) s.wants.served
+  pub once : AreDistinctIds s.wants.served
+  pub pooled : AllByRecursion (λ id. IsTrue (is_in_pool s.pool id)) s.wants.served
 
 pub record IsStore (s : NodeState) : Type 0 where
   pub pool : IsPool s.pool
@@ -54,12 +54,12 @@ pub record IsStore (s : NodeState) : Type 0 where
 -- ---- the set and the snapshot
 
 -- a member that a node may have in its set: of its pool, with the short id under the key of both salts
-pub record IsMember (keys : KeyPair) (pool : List Held) (m : Member) : Type 0 where
-  pub pooled : IsTrue (in_pool pool m.id)
+pub record IsMember (keys : KeyPair) (pool : List Transaction) (m : Member) : Type 0 where
+  pub pooled : IsTrue (is_in_pool pool m.id)
   pub short : m ≡ member_of keys m.id
 
 -- members alone, each once
-pub record AreMembers (keys : KeyPair) (pool : List Held) (ms : List Member) : Type 0 where
+pub record AreMembers (keys : KeyPair) (pool : List Transaction) (ms : List Member) : Type 0 where
   pub once : IsSet ms
   pub each : AllByRecursion (IsMember keys pool) ms
 
@@ -67,8 +67,8 @@ pub record AreMembers (keys : KeyPair) (pool : List Held) (ms : List Member) : T
 pub record IsSetUp (s : NodeState) : Type 0 where
   pub set : AreMembers (node_keys s) s.pool s.set
   pub snapshot : AreMembers (node_keys s) s.pool s.machine.round.snapshot
-  pub apart : AllByRecursion (λ m. IsTrue (not (listed (ids_of s.machine.round.snapshot) m.id))) s.set
-  pub unknown : AllByRecursion (λ m. IsTrue (not (listed (open_wants s) m.id))) s.set
+  pub apart : AllByRecursion (λ m. IsTrue (not (is_listed (ids_of s.machine.round.snapshot) m.id))) s.set
+  pub unknown : AllByRecursion (λ m. IsTrue (not (is_listed (open_wants s) m.id))) s.set
 
 -- ---- the conversation
 
@@ -109,10 +109,10 @@ pub record IsIntroduced (s : NodeState) : Type 0 where
   pub phase : IsTrue (is_phase_of s.config.role s.machine.phase)
 
 -- by the phase: nothing is noted of a peer whose version hasn't come
-unfoldable pub Converses : Phase → NodeState → Type 0
-Converses phase.Greeting s = IsEarly s × (s.peer ≡ no_peer)
-Converses phase.Greeted s = IsEarly s
-Converses other s = IsIntroduced s
+unfoldable pub IsConversingIn : Phase → NodeState → Type 0
+IsConversingIn phase.Greeting s = IsEarly s × (s.peer ≡ no_peer)
+IsConversingIn phase.Greeted s = IsEarly s
+IsConversingIn other s = IsIntroduced s
 
 -- whether no sketch is waited for, and none was sent
 unfoldable pub is_apart_from_sketches : Option ℕ → Option ℕ → Bool
@@ -124,7 +124,7 @@ pub record IsPlain (s : NodeState) : Type 0 where
   pub set : s.set ≡ []
   pub round : s.machine.round ≡ no_round
   pub reports : s.machine.reports ≡ []
-  pub phase : IsTrue (is_apart_from_sketches (asked_for s.machine.phase) (given s.machine.phase))
+  pub phase : IsTrue (is_apart_from_sketches (requested_extensions s.machine.phase) (sent_extensions s.machine.phase))
 
 -- whether transactions that were asked for behind a round haven't come
 unfoldable pub is_fetching : Phase → Bool
@@ -132,15 +132,15 @@ is_fetching phase.Fetching = true
 is_fetching other = false
 
 -- an opener fetches exactly while something is asked for; an accepter asks at once for what is new, and begins no round
-unfoldable pub KeepsRole : Role → NodeState → Type 0
-KeepsRole role.Opener s = is_fetching s.machine.phase ≡ nat_lt 0 (length s.wants.asked)
-KeepsRole role.Accepter s = (s.wants.wanted ≡ []) × (s.requests ≡ first_requests)
+unfoldable pub IsOfRole : Role → NodeState → Type 0
+IsOfRole role.Opener s = is_fetching s.machine.phase ≡ nat_lt 0 (length s.wants.asked)
+IsOfRole role.Accepter s = (s.wants.wanted ≡ []) × (s.requests ≡ first_requests)
 
 pub record IsConversing (s : NodeState) : Type 0 where
-  pub conversation : Converses s.machine.phase s
+  pub conversation : IsConversingIn s.machine.phase s
   pub offer : (o : Offer) → s.peer.offer ≡ Some o → IsOffer o
   pub plain : s.plain ≡ true → IsPlain s
-  pub role : KeepsRole s.config.role s
+  pub role : IsOfRole s.config.role s
 
 -- ---- the round
 
@@ -158,19 +158,19 @@ pub record IsSketched (r : Round) : Type 0 where
   pub sums : r.sums ≡ []
 
 -- a round is kept while an extension is waited for, and once a sketch was sent
-unfoldable pub KeepsRound : Option ℕ → Option ℕ → Round → Type 0
-KeepsRound (Some (suc n)) sent r = IsExtending n r
-KeepsRound (Some zero) sent r = r ≡ no_round
-KeepsRound None (Some n) r = IsSketched r
-KeepsRound None None r = r ≡ no_round
+unfoldable pub IsRoundOf : Option ℕ → Option ℕ → Round → Type 0
+IsRoundOf (Some (suc n)) sent r = IsExtending n r
+IsRoundOf (Some zero) sent r = r ≡ no_round
+IsRoundOf None (Some n) r = IsSketched r
+IsRoundOf None None r = r ≡ no_round
 
 -- numbers are of their types and within their limits, and there are no more extensions than the level allows
 pub record IsBounded (m : Machine) (k : Requests) : Type 0 where
   pub least : 1 ≤ m.level
   pub most : m.level ≤ 2
-  pub waited : (n : ℕ) → asked_for m.phase ≡ Some n → n ≤ m.level
-  pub sent : (n : ℕ) → given m.phase ≡ Some n → n ≤ m.level
-  pub round : KeepsRound (asked_for m.phase) (given m.phase) m.round
+  pub waited : (n : ℕ) → requested_extensions m.phase ≡ Some n → n ≤ m.level
+  pub sent : (n : ℕ) → sent_extensions m.phase ≡ Some n → n ≤ m.level
+  pub round : IsRoundOf (requested_extensions m.phase) (sent_extensions m.phase) m.round
   pub coefficient : k.coefficient ≤ 65534
   pub begun : k.begun < 2 ^ 64
 
@@ -181,9 +181,9 @@ pub record IsShort (n : ℕ) : Type 0 where
   pub least : 1 ≤ n
   pub most : n < 2 ^ 32
 
-pub record IsReport (pool : List Held) (r : Report) : Type 0 where
-  pub once : Distinct r.snapshot
-  pub pooled : AllByRecursion (λ id. IsTrue (in_pool pool id)) r.snapshot
+pub record IsReport (pool : List Transaction) (r : Report) : Type 0 where
+  pub once : AreDistinctIds r.snapshot
+  pub pooled : AllByRecursion (λ id. IsTrue (is_in_pool pool id)) r.snapshot
   pub capacity : r.capacity ≤ FIRST_LIMIT
   pub answered_once : IsDistinct nat_eq r.answered
   pub answered : AllByRecursion IsShort r.answered
@@ -197,5 +197,5 @@ pub record IsNode (s : NodeState) : Type 0 where
   pub conversing : IsConversing s
   pub bounded : IsBounded s.machine s.requests
   pub reports : AllByRecursion (IsReport s.pool) s.machine.reports
-  pub place : s.inbox.place < 2 ^ 64
+  pub offset : s.inbox.offset < 2 ^ 64
   pub unread : IsTrue (are_bytes s.inbox.unread)

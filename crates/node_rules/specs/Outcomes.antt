@@ -13,11 +13,11 @@ abbrev pub is_in : List ℕ → ℕ → Bool
 is_in ns n = list_any (λ other. other == n) ns
 
 -- the short ids of a list that are sketched in a snapshot, and those that aren't, which the other side alone has
-abbrev pub mine_in : List Member → List ℕ → List ℕ
-mine_in snapshot shorts = filter (λ n. is_in (sketched_shorts snapshot) n) shorts
+abbrev pub own_short_ids : List Member → List ℕ → List ℕ
+own_short_ids snapshot shorts = filter (λ n. is_in (sketched_shorts snapshot) n) shorts
 
-abbrev pub asks_in : List Member → List ℕ → List ℕ
-asks_in snapshot shorts = filter (λ n. not (is_in (sketched_shorts snapshot) n)) shorts
+abbrev pub missing_short_ids : List Member → List ℕ → List ℕ
+missing_short_ids snapshot shorts = filter (λ n. not (is_in (sketched_shorts snapshot) n)) shorts
 
 -- the ids of a snapshot that are set aside or whose short ids are in a list, in snapshot order
 abbrev pub announcement : List Member → List ℕ → List Hash32
@@ -27,5 +27,5 @@ abbrev pub report_of : Round → Ending → List ℕ → Report
 report_of r e shorts = record { snapshot = ids_of r.snapshot; capacity = r.capacity; ending = e; answered = shorts }
 
 -- a round is over: its report and the phase
-abbrev pub closed : Machine → Phase → Report → Machine
-closed m next report = record m { phase = next; round = no_round; reports = m.reports ++ report ∷ [] }
+abbrev pub after_round : Machine → Phase → Report → Machine
+after_round m next report = record m { phase = next; round = no_round; reports = m.reports ++ report ∷ [] }

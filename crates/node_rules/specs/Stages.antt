@@ -7,36 +7,36 @@ use Rattle.pool_rules.specs.declared.report.Ending.{Ending}
 use Rattle.pool_rules.specs.declared.report.Ending.TheVariants as ending
 
 -- an opener that has asked for n extensions
-unfoldable pub waiting : ℕ → Phase
-waiting zero = phase.Waiting
-waiting (suc zero) = phase.WaitingExt
-waiting (suc (suc n)) = phase.WaitingExt2
+unfoldable pub waiting_phase : ℕ → Phase
+waiting_phase zero = phase.Waiting
+waiting_phase (suc zero) = phase.WaitingExt
+waiting_phase (suc (suc n)) = phase.WaitingExt2
 
 -- an accepter that has sent n extensions
-unfoldable pub sent : ℕ → Phase
-sent zero = phase.Sent
-sent (suc zero) = phase.SentExt
-sent (suc (suc n)) = phase.SentExt2
+unfoldable pub sent_phase : ℕ → Phase
+sent_phase zero = phase.Sent
+sent_phase (suc zero) = phase.SentExt
+sent_phase (suc (suc n)) = phase.SentExt2
 
 -- how many extensions an opener has asked for, where it waits for a sketch
-unfoldable pub asked_for : Phase → Option ℕ
-asked_for phase.Waiting = Some 0
-asked_for phase.WaitingExt = Some 1
-asked_for phase.WaitingExt2 = Some 2
-asked_for other = None
+unfoldable pub requested_extensions : Phase → Option ℕ
+requested_extensions phase.Waiting = Some 0
+requested_extensions phase.WaitingExt = Some 1
+requested_extensions phase.WaitingExt2 = Some 2
+requested_extensions other = None
 
 -- how many extensions an accepter has sent, where it has sent a sketch
-unfoldable pub given : Phase → Option ℕ
-given phase.Sent = Some 0
-given phase.SentExt = Some 1
-given phase.SentExt2 = Some 2
-given other = None
+unfoldable pub sent_extensions : Phase → Option ℕ
+sent_extensions phase.Sent = Some 0
+sent_extensions phase.SentExt = Some 1
+sent_extensions phase.SentExt2 = Some 2
+sent_extensions other = None
 
 -- the ending of a round that is answered with n extensions
-unfoldable pub answered_at : ℕ → Ending
-answered_at zero = ending.First
-answered_at (suc zero) = ending.Extension
-answered_at (suc (suc n)) = ending.Extension2
+unfoldable pub answered_ending : ℕ → Ending
+answered_ending zero = ending.First
+answered_ending (suc zero) = ending.Extension
+answered_ending (suc (suc n)) = ending.Extension2
 
 -- with how many extensions a round was answered, where it was
 unfoldable pub extensions_in : Ending → Option ℕ
@@ -55,7 +55,7 @@ is_idle phase.Idle = true
 is_idle other = false
 
 -- whether the handshake is over
-unfoldable pub is_past : Phase → Bool
-is_past phase.Greeting = false
-is_past phase.Greeted = false
-is_past other = true
+unfoldable pub is_after_handshake : Phase → Bool
+is_after_handshake phase.Greeting = false
+is_after_handshake phase.Greeted = false
+is_after_handshake other = true

@@ -7,7 +7,7 @@ use Rattle.id_rules.specs.Bytes.{are_bytes, are_bytes_of, fits_signed}
 use Rattle.id_rules.specs.Ids.{KeyPair, keys_of}
 use Rattle.wire_rules.specs.declared.phase.Phase.{Phase}
 use Rattle.wire_rules.specs.declared.phase.Phase.TheVariants as phase
-use Rattle.pool_rules.specs.Pools.{Held, Distinct, IsPool, in_pool}
+use Rattle.pool_rules.specs.Pools.{Transaction, AreDistinctIds, IsPool, is_in_pool}
 use Rattle.pool_rules.specs.Snapshots.{Member, member_of, IsSet}
 use Rattle.pool_rules.specs.declared.limits.TheConstants.{POOL_LIMIT, FIRST_COEFFICIENT}
 use Rattle.pool_rules.specs.declared.report.Report.{Report}
@@ -66,7 +66,7 @@ pub record Peer : Type 0 where
 -- bytes received of which no message is whole, and the offset of the first of them in the stream
 pub record Inbox : Type 0 where
   pub unread : List ℕ
-  pub place : ℕ
+  pub offset : ℕ
 
 -- the set has the members that the peer isn't known to have and that no round has taken. A node is plain where the peer
 -- reconciles nothing
@@ -75,7 +75,7 @@ pub record NodeState : Type 0 where
   pub machine : Machine
   pub requests : Requests
   pub set : List Member
-  pub pool : List Held
+  pub pool : List Transaction
   pub wants : Wants
   pub peer : Peer
   pub plain : Bool
@@ -86,7 +86,7 @@ pub record NodeState : Type 0 where
 pub record NodeView : Type 0 where
   pub state : NodeState
   pub outbox : List ℕ
-  pub starved : Bool
+  pub out_of_memory : Bool
 
 -- nothing was wanted, asked for or served
 abbrev pub no_wants : Wants
@@ -100,7 +100,7 @@ abbrev pub first_requests : Requests
 first_requests = record { coefficient = FIRST_COEFFICIENT; begun = 0 }
 
 -- a new node
-abbrev pub opening_state : Config → List Held → NodeState
+abbrev pub opening_state : Config → List Transaction → NodeState
 opening_state config pool = record {
   config = config;
   machine = record { phase = phase.Greeting; level = 1; round = no_round; reports = [] };
@@ -110,7 +110,7 @@ opening_state config pool = record {
   wants = no_wants;
   peer = no_peer;
   plain = false;
-  inbox = record { unread = []; place = 0 };
+  inbox = record { unread = []; offset = 0 };
   ended = None;
 }
 
@@ -132,9 +132,9 @@ abbrev pub open_wants : NodeState → List Hash32
 open_wants s = s.wants.wanted ++ s.wants.asked
 
 -- those of them that the pool lacks
-abbrev pub lacked : NodeState → List Hash32
-lacked s = filter (λ id. not (in_pool s.pool id)) (open_wants s)
+abbrev pub missing_wants : NodeState → List Hash32
+missing_wants s = filter (λ id. not (is_in_pool s.pool id)) (open_wants s)
 
 -- how much of the pool's limit is taken: its transactions, and the open wants that it lacks
 abbrev pub taken_room : NodeState → ℕ
-taken_room s = length s.pool + length (lacked s)
+taken_room s = length s.pool + length (missing_wants s)

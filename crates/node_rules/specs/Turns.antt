@@ -2,7 +2,7 @@
 use Rattle.std.specs.Prelude.{List, [], ◌∷◌, ◌++◌, map, Some, Ok, Err}
 use Rattle.std.specs.declared.result.Result.{Result}
 use Rattle.base_types.specs.declared.lists.Hash32.{Hash32}
-use Rattle.wire_rules.specs.Layout.{on_wire}
+use Rattle.wire_rules.specs.Layout.{wire_bytes}
 use Rattle.wire_rules.specs.declared.message.InvEntry.{InvEntry}
 use Rattle.wire_rules.specs.declared.message.Message.{Message}
 use Rattle.wire_rules.specs.declared.message.Message.TheVariants as message
@@ -29,38 +29,38 @@ pub record Turn : Type 0 where
   pub out : List Message
 
 -- nothing changes and nothing is sent
-abbrev pub passed : NodeState → Turn
-passed s = record { state = s; out = [] }
+abbrev pub unchanged : NodeState → Turn
+unchanged s = record { state = s; out = [] }
 
 -- nothing changes, and messages are sent
-abbrev pub sends : NodeState → List Message → Turn
-sends s ms = record { state = s; out = ms }
+abbrev pub turn_with : NodeState → List Message → Turn
+turn_with s ms = record { state = s; out = ms }
 
 -- the node ends, and nothing else changes
-abbrev pub refused : NodeState → End → Turn
-refused s e = record { state = record s { ended = Some e }; out = [] }
+abbrev pub refusal : NodeState → End → Turn
+refusal s e = record { state = record s { ended = Some e }; out = [] }
 
--- a message has no place in the handshake, or behind it
-abbrev pub strays : NodeState → Name → Turn
-strays s n = refused s (end.Handshake n)
+-- a message doesn't belong in the handshake, or behind it
+abbrev pub handshake_refusal : NodeState → Name → Turn
+handshake_refusal s n = refusal s (end.Handshake n)
 
--- a message has no place in the phase
-abbrev pub misplaced : NodeState → Name → Turn
-misplaced s n = refused s (end.Misplaced n s.machine.phase)
+-- a message doesn't belong in the phase
+abbrev pub phase_refusal : NodeState → Name → Turn
+phase_refusal s n = refusal s (end.Misplaced n s.machine.phase)
 
 -- an opener as its machine has moved
-abbrev pub moved : NodeState → Result Move End → Turn
-moved s (Ok m) = record { state = record s { machine = m.initiator.machine; requests = m.initiator.requests; set = m.set }; out = m.out }
-moved s (Err e) = refused s e
+abbrev pub after_move : NodeState → Result Move End → Turn
+after_move s (Ok m) = record { state = record s { machine = m.initiator.machine; requests = m.initiator.requests; set = m.set }; out = m.out }
+after_move s (Err e) = refusal s e
 
 -- an accepter as its machine has responded, and what is left of its set
 abbrev pub after_response : NodeState → List Member → Result Response End → Turn
 after_response s set (Ok r) = record { state = record s { machine = r.machine; set = set }; out = r.out }
-after_response s set (Err e) = refused s e
+after_response s set (Err e) = refusal s e
 
 -- a caller's view behind a step: the frames of its messages go to the end of the outbox
 abbrev pub after_turn : NodeView → Turn → NodeView
-after_turn v t = record v { state = t.state; outbox = v.outbox ++ on_wire t.state.config.magic t.out }
+after_turn v t = record v { state = t.state; outbox = v.outbox ++ wire_bytes t.state.config.magic t.out }
 
 -- ---- inventories
 

@@ -5,7 +5,7 @@ use wire_rules::{FrameFault, Name, PayloadFault, Phase};
 /// Why a node ended: the first thing in its peer's stream that it refuses.
 #[derive(Clone, Copy, Debug, PartialEq, Eq)]
 pub enum End {
-    /// The stream has no frame at a place.
+    /// The stream has no frame at an offset.
     Frame(FrameFault),
     /// A frame's payload is no message.
     Payload(PayloadFault),
@@ -17,9 +17,9 @@ pub enum End {
     NoWtxidRelay,
     /// The peer's version of reconciliation is 0.
     ZeroReconVersion,
-    /// A message has no place before, or behind, the handshake.
+    /// A message doesn't belong before, or behind, the handshake.
     Handshake { command: Name },
-    /// A message has no place in this phase.
+    /// A message doesn't belong in this phase.
     Misplaced { command: Name, phase: Phase },
     /// A sketch has not the length that is wanted. 0 is wanted where a first sketch has no length that it may have.
     SketchLength { len: u64, wanted: u64 },

@@ -2,15 +2,15 @@
 -- Nothing computes the set that a sketch is of: that the difference is an answer to the sketch is computed, and a sketch
 -- has one answer. The worlds are written out, so that each step computes from plain values.
 use Rattle.std.proofs.Common.{◌≡◌, ℕ, List, [], ◌∷◌, ◌++◌, refl, sym, ap, subst, ◌∙◌, true, true≢false, ◌==◌, Option, Some, inr, lit<, lit≤}
-use Rattle.field_laws.proofs.Certified32.{certified_32}
-use Rattle.sketch_rules.specs.Answers.{Answer, Rises, answer_of}
+use Rattle.field_laws.proofs.Certified32.{certificate_32}
+use Rattle.sketch_rules.specs.Answers.{Answer, IsAscending, answer_of}
 use Rattle.sketch_laws.proofs.Unique.{answer_at-exactly}
-use Rattle.wire_rules.specs.Layout.{on_wire}
+use Rattle.wire_rules.specs.Layout.{wire_bytes}
 use Rattle.wire_rules.specs.declared.message.Message.{Message}
 use Rattle.wire_rules.specs.declared.message.Message.TheVariants as message
 use Rattle.wire_rules.specs.declared.phase.Phase.TheVariants as phase
 use Rattle.wire_rules.proofs.Samples.{magic}
-use Rattle.pool_rules.specs.Pools.{Held}
+use Rattle.pool_rules.specs.Pools.{Transaction}
 use Rattle.pool_rules.specs.Snapshots.{Member}
 use Rattle.pool_rules.specs.declared.report.Ending.TheVariants as ending
 use Rattle.pool_rules.specs.declared.report.Report.{Report}
@@ -18,8 +18,8 @@ use Rattle.node_rules.specs.Accepter.{first_portion}
 use Rattle.node_rules.specs.State.{NodeState, no_round}
 use Rattle.node_rules.specs.Turns.{entry}
 use Rattle.node_rules.proofs.Samples.{new_opener, new_accepter}
-use Rattle.pair_rules.specs.Rounds.{Fits, Holds, IsFinished, pair_keys}
-use Rattle.pair_rules.specs.World.{World, Effect, IsDrained, run, run_from, unless_ended, happens, followed, deliveries}
+use Rattle.pair_rules.specs.Rounds.{IsReconcilable, HasBothSnapshots, IsFinished, pair_keys}
+use Rattle.pair_rules.specs.World.{World, Effect, IsDrained, run, run_from, unless_ended, effect_of, effect_sequence, deliveries}
 use Rattle.pair_rules.specs.declared.event.Event.{Event}
 use Rattle.pair_rules.specs.declared.event.Event.TheVariants as event
 use Rattle.pair_laws.proofs.Runs.{run_from-append}
@@ -30,7 +30,7 @@ all = 18446744073709551615
 
 -- ---- the transactions of the bytes of 'hello' and 'abc', and their short ids under the salts 1 and 2
 
-abbrev pub hello : Held
+abbrev pub hello : Transaction
 hello = record {
   bytes = 104 ∷ 101 ∷ 108 ∷ 108 ∷ 111 ∷ [];
   id = record {
@@ -40,7 +40,7 @@ hello = record {
   };
 }
 
-abbrev pub abc : Held
+abbrev pub abc : Transaction
 abc = record {
   bytes = 97 ∷ 98 ∷ 99 ∷ [];
   id = record {
@@ -70,14 +70,14 @@ waiting_a = record (introduced (new_opener (hello ∷ [])) 2) {
   machine = record { phase = phase.Waiting; level = 2; round = no_round; reports = [] };
   requests = record { coefficient = 8192; begun = 1 };
   set = hello_member ∷ [];
-  inbox = record { unread = []; place = 203 };
+  inbox = record { unread = []; offset = 203 };
 }
 
 abbrev sent_b : NodeState
 sent_b = record (introduced (new_accepter (abc ∷ [])) 1) {
   machine = record { phase = phase.Sent; level = 2; round = record { snapshot = abc_member ∷ []; capacity = 8; sums = [] }; reports = [] };
   requests = record { coefficient = 8192; begun = 0 };
-  inbox = record { unread = []; place = 231 };
+  inbox = record { unread = []; offset = 231 };
 }
 
 -- the accepter's sketch, of capacity 8, as its frame
@@ -104,13 +104,13 @@ abbrev pub both : List ℕ
 both = 0x7d73875b ∷ 0xd977c38b ∷ []
 
 both_answer : Answer 32 difference_sums both
-unfolding happening Rises
+unfolding happening IsAscending
 both_answer = record { rises = (lit≤ tt, lit< tt, (lit≤ tt, lit< tt, tt)); few = lit≤ tt; sketched = refl }
 
 -- ---- the sketch arrives: the opener asks for the accepter's transaction and announces its own
 
 abbrev read_a : NodeState
-read_a = record waiting_a { inbox = record { unread = []; place = 260 } }
+read_a = record waiting_a { inbox = record { unread = []; offset = 260 } }
 
 abbrev sketch_bytes : List ℕ
 sketch_bytes = first_portion sent_b.machine.round
@@ -119,7 +119,7 @@ sketch_bytes = first_portion sent_b.machine.round
 abbrev effect_by : Option (List ℕ) → Effect
 effect_by answer = sketch_effect read_a sent_b sketch_bytes answer
 
-arrives : happens at_sketch (event.DeliverBa all) ≡ effect_by (answer_of difference_sums)
+arrives : effect_of at_sketch (event.DeliverBa all) ≡ effect_by (answer_of difference_sums)
 unfolding happening
 arrives = refl
 
@@ -137,13 +137,13 @@ answered_a = record read_a {
 }
 
 abbrev answered : Effect
-answered = record { world = record { a = answered_a; b = sent_b; ab = on_wire magic said; ba = [] }; by_a = said; by_b = []; full = 0 }
+answered = record { world = record { a = answered_a; b = sent_b; ab = wire_bytes magic said; ba = [] }; by_a = said; by_b = []; full = 0 }
 
 answers : effect_by (Some both) ≡ answered
 unfolding happening
 answers = refl
 
-sketch_arrives : answer_of difference_sums ≡ Some both → happens at_sketch (event.DeliverBa all) ≡ answered
+sketch_arrives : answer_of difference_sums ≡ Some both → effect_of at_sketch (event.DeliverBa all) ≡ answered
 sketch_arrives h = arrives ∙ ap effect_by h ∙ answers
 
 -- ---- the rest of the round: both are idle again, and each has what the other had
@@ -156,7 +156,7 @@ last_a = record (introduced (new_opener (hello ∷ abc ∷ [])) 2) {
   machine = record { phase = phase.Idle; level = 2; round = no_round; reports = opener_report ∷ [] };
   requests = record { coefficient = 65534; begun = 1 };
   wants = record { wanted = []; asked = []; served = hello.id ∷ [] };
-  inbox = record { unread = []; place = 441 };
+  inbox = record { unread = []; offset = 441 };
 }
 
 abbrev pub last_b : NodeState
@@ -164,7 +164,7 @@ last_b = record (introduced (new_accepter (abc ∷ hello ∷ [])) 1) {
   machine = record { phase = phase.Idle; level = 2; round = no_round; reports = accepter_report ∷ [] };
   requests = record { coefficient = 8192; begun = 0 };
   wants = record { wanted = []; asked = []; served = abc.id ∷ [] };
-  inbox = record { unread = []; place = 444 };
+  inbox = record { unread = []; offset = 444 };
 }
 
 abbrev pub last : World
@@ -180,16 +180,16 @@ abbrev pub script : List Event
 script = to_the_sketch ++ event.DeliverBa all ∷ deliveries 15
 
 -- the events from the sketch on: the sketch, and all deliveries
-sketch_first : (run_from (event.DeliverBa all ∷ deliveries 15) at_sketch).world ≡ (followed (happens at_sketch (event.DeliverBa all)) (run_from (deliveries 15) (happens at_sketch (event.DeliverBa all)).world)).world
+sketch_first : (run_from (event.DeliverBa all ∷ deliveries 15) at_sketch).world ≡ (effect_sequence (effect_of at_sketch (event.DeliverBa all)) (run_from (deliveries 15) (effect_of at_sketch (event.DeliverBa all)).world)).world
 unfolding run_from unless_ended
 sketch_first = refl
 
 from_sketch : answer_of difference_sums ≡ Some both → (run_from (event.DeliverBa all ∷ deliveries 15) at_sketch).world ≡ last
-from_sketch h = sketch_first ∙ ap (λ (x : Effect). (followed x (run_from (deliveries 15) x.world)).world) (sketch_arrives h) ∙ goes_on
+from_sketch h = sketch_first ∙ ap (λ (x : Effect). (effect_sequence x (run_from (deliveries 15) x.world)).world) (sketch_arrives h) ∙ goes_on
 
 -- a sketch has one answer, and it is this one
 answered_by_both : answer_of difference_sums ≡ Some both
-answered_by_both = (answer_at-exactly 32 certified_32 difference_sums both).1 both_answer
+answered_by_both = (answer_at-exactly 32 certificate_32 difference_sums both).1 both_answer
 
 whole : (run new_pair script).world ≡ last
 whole =
@@ -202,11 +202,11 @@ whole =
 apart : ◌≡◌ {A = ℕ} 0xd977c38b 0x7d73875b → hello.id ≡ abc.id
 apart same = absurd (true≢false (ap (λ n. n == 0xd977c38b) same))
 
-fits : Fits (pair_keys last) opener_report accepter_report
+fits : IsReconcilable (pair_keys last) opener_report accepter_report
 unfolding happening
 fits = inr (record { apart = ((apart, tt), tt); small = lit≤ tt })
 
-holds : Holds last opener_report accepter_report
+holds : HasBothSnapshots last opener_report accepter_report
 unfolding happening
 holds = record { of_a = (record { a = refl; b = refl }, tt); of_b = (record { a = refl; b = refl }, tt) }
 

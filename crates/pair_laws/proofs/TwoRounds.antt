@@ -1,10 +1,10 @@
 -- Two rounds of two nodes, with deliveries that cut a frame and additions while a round is under way: what is added before
 -- the sketch arrives belongs to the first round, what is added behind the snapshot to the second.
 use Rattle.std.proofs.Common.{◌≡◌, ℕ, List, [], ◌∷◌, ◌++◌, refl, sym, ap, subst, ◌∙◌, true, false, Option, Some, lit<, lit≤}
-use Rattle.field_laws.proofs.Certified32.{certified_32}
-use Rattle.sketch_rules.specs.Answers.{Answer, Rises, answer_of}
+use Rattle.field_laws.proofs.Certified32.{certificate_32}
+use Rattle.sketch_rules.specs.Answers.{Answer, IsAscending, answer_of}
 use Rattle.sketch_laws.proofs.Unique.{answer_at-exactly}
-use Rattle.wire_rules.specs.Layout.{on_wire}
+use Rattle.wire_rules.specs.Layout.{wire_bytes}
 use Rattle.wire_rules.specs.declared.message.Message.{Message}
 use Rattle.wire_rules.specs.declared.message.Message.TheVariants as message
 use Rattle.wire_rules.specs.declared.phase.Phase.TheVariants as phase
@@ -16,7 +16,7 @@ use Rattle.node_rules.specs.State.{NodeState, no_round}
 use Rattle.node_rules.specs.Turns.{entry}
 use Rattle.node_rules.proofs.Samples.{new_opener, new_accepter}
 use Rattle.pair_rules.specs.Rounds.{IsFinished}
-use Rattle.pair_rules.specs.World.{World, Effect, run, run_from, unless_ended, happens, followed, deliveries}
+use Rattle.pair_rules.specs.World.{World, Effect, run, run_from, unless_ended, effect_of, effect_sequence, deliveries}
 use Rattle.pair_rules.specs.declared.event.Event.{Event}
 use Rattle.pair_rules.specs.declared.event.Event.TheVariants as event
 use Rattle.pair_laws.proofs.Runs.{run_from-append}
@@ -36,14 +36,14 @@ first_a = record (introduced (new_opener (hello ∷ [])) 2) {
   machine = record { phase = phase.Waiting; level = 2; round = no_round; reports = [] };
   requests = record { coefficient = 8192; begun = 1 };
   set = hello_member ∷ [];
-  inbox = record { unread = []; place = 203 };
+  inbox = record { unread = []; offset = 203 };
 }
 
 abbrev first_b : NodeState
 first_b = record (introduced (new_accepter []) 1) {
   machine = record { phase = phase.Sent; level = 2; round = record { snapshot = []; capacity = 8; sums = [] }; reports = [] };
   requests = record { coefficient = 8192; begun = 0 };
-  inbox = record { unread = []; place = 231 };
+  inbox = record { unread = []; offset = 231 };
 }
 
 -- the sketch of no members
@@ -66,16 +66,16 @@ abbrev hello_sums : List ℕ
 hello_sums = 0xd977c38b ∷ 0x709b5f42 ∷ 0xaca6b509 ∷ 0xc00cd09d ∷ 0x2d1862ce ∷ 0xf3817eaf ∷ 0x888266fb ∷ 0xfdb46861 ∷ []
 
 hello_answer : Answer 32 hello_sums (0xd977c38b ∷ [])
-unfolding happening Rises
+unfolding happening IsAscending
 hello_answer = record { rises = (lit≤ tt, lit< tt, tt); few = lit≤ tt; sketched = refl }
 
 abbrev first_read : NodeState
-first_read = record first_a { inbox = record { unread = []; place = 260 } }
+first_read = record first_a { inbox = record { unread = []; offset = 260 } }
 
 abbrev first_by : Option (List ℕ) → Effect
 first_by answer = sketch_effect first_read first_b (first_portion first_b.machine.round) answer
 
-first_arrives : happens at_first (event.DeliverBa 1000) ≡ first_by (answer_of hello_sums)
+first_arrives : effect_of at_first (event.DeliverBa 1000) ≡ first_by (answer_of hello_sums)
 unfolding happening
 first_arrives = refl
 
@@ -93,7 +93,7 @@ answered_a = record first_read {
 }
 
 abbrev first_answered : Effect
-first_answered = record { world = record { a = answered_a; b = first_b; ab = on_wire magic first_said; ba = [] }; by_a = first_said; by_b = []; full = 0 }
+first_answered = record { world = record { a = answered_a; b = first_b; ab = wire_bytes magic first_said; ba = [] }; by_a = first_said; by_b = []; full = 0 }
 
 first_answers : first_by (Some (0xd977c38b ∷ [])) ≡ first_answered
 unfolding happening
@@ -112,14 +112,14 @@ second_a = record (introduced (new_opener (hello ∷ [])) 2) {
   machine = record { phase = phase.Waiting; level = 2; round = no_round; reports = first_report_a ∷ [] };
   requests = record { coefficient = 0; begun = 2 };
   wants = record { wanted = []; asked = []; served = hello.id ∷ [] };
-  inbox = record { unread = []; place = 353 };
+  inbox = record { unread = []; offset = 353 };
 }
 
 abbrev second_b : NodeState
 second_b = record (introduced (new_accepter (abc ∷ hello ∷ [])) 1) {
   machine = record { phase = phase.Sent; level = 2; round = record { snapshot = abc_member ∷ []; capacity = 8; sums = [] }; reports = first_report_b ∷ [] };
   requests = record { coefficient = 8192; begun = 0 };
-  inbox = record { unread = []; place = 407 };
+  inbox = record { unread = []; offset = 407 };
 }
 
 -- the sketch of the accepter's transaction
@@ -142,16 +142,16 @@ abbrev abc_sums : List ℕ
 abc_sums = 0x7d73875b ∷ 0xf3e09387 ∷ 0x0c86bd7e ∷ 0x3140294b ∷ 0xb6f3e96d ∷ 0x3449118c ∷ 0x7229a2aa ∷ 0x9993ce67 ∷ []
 
 abc_answer : Answer 32 abc_sums (0x7d73875b ∷ [])
-unfolding happening Rises
+unfolding happening IsAscending
 abc_answer = record { rises = (lit≤ tt, lit< tt, tt); few = lit≤ tt; sketched = refl }
 
 abbrev second_read : NodeState
-second_read = record second_a { inbox = record { unread = []; place = 410 } }
+second_read = record second_a { inbox = record { unread = []; offset = 410 } }
 
 abbrev second_by : Option (List ℕ) → Effect
 second_by answer = sketch_effect second_read second_b (first_portion second_b.machine.round) answer
 
-second_arrives : happens at_second (event.DeliverBa all) ≡ second_by (answer_of abc_sums)
+second_arrives : effect_of at_second (event.DeliverBa all) ≡ second_by (answer_of abc_sums)
 unfolding happening
 second_arrives = refl
 
@@ -168,7 +168,7 @@ again_a = record second_read {
 }
 
 abbrev second_answered : Effect
-second_answered = record { world = record { a = again_a; b = second_b; ab = on_wire magic second_said; ba = [] }; by_a = second_said; by_b = []; full = 0 }
+second_answered = record { world = record { a = again_a; b = second_b; ab = wire_bytes magic second_said; ba = [] }; by_a = second_said; by_b = []; full = 0 }
 
 second_answers : second_by (Some (0x7d73875b ∷ [])) ≡ second_answered
 unfolding happening
@@ -184,7 +184,7 @@ last_a = record (introduced (new_opener (hello ∷ abc ∷ [])) 2) {
   machine = record { phase = phase.Idle; level = 2; round = no_round; reports = first_report_a ∷ second_report_a ∷ [] };
   requests = record { coefficient = 0; begun = 2 };
   wants = record { wanted = []; asked = []; served = hello.id ∷ [] };
-  inbox = record { unread = []; place = 530 };
+  inbox = record { unread = []; offset = 530 };
 }
 
 abbrev last_b : NodeState
@@ -192,7 +192,7 @@ last_b = record (introduced (new_accepter (abc ∷ hello ∷ [])) 1) {
   machine = record { phase = phase.Idle; level = 2; round = no_round; reports = first_report_b ∷ second_report_b ∷ [] };
   requests = record { coefficient = 8192; begun = 0 };
   wants = record { wanted = []; asked = []; served = abc.id ∷ [] };
-  inbox = record { unread = []; place = 530 };
+  inbox = record { unread = []; offset = 530 };
 }
 
 abbrev pub two_rounds : World
@@ -214,7 +214,7 @@ abbrev pub script : List Event
 script = to_first ++ from_first
 
 -- the first of two parts of a run is its first event
-one_event : (e : Event) (es : List Event) (w : World) → unless_ended false w (happens w e) (run_from es) ≡ followed (happens w e) (run_from es (happens w e).world)
+one_event : (e : Event) (es : List Event) (w : World) → unless_ended false w (effect_of w e) (run_from es) ≡ effect_sequence (effect_of w e) (run_from es (effect_of w e).world)
 unfolding unless_ended
 one_event e es w = refl
 
@@ -234,10 +234,10 @@ by_first g h =
 
 -- a sketch has one answer
 first_answer_found : answer_of hello_sums ≡ Some (0xd977c38b ∷ [])
-first_answer_found = (answer_at-exactly 32 certified_32 hello_sums (0xd977c38b ∷ [])).1 hello_answer
+first_answer_found = (answer_at-exactly 32 certificate_32 hello_sums (0xd977c38b ∷ [])).1 hello_answer
 
 second_answer_found : answer_of abc_sums ≡ Some (0x7d73875b ∷ [])
-second_answer_found = (answer_at-exactly 32 certified_32 abc_sums (0x7d73875b ∷ [])).1 abc_answer
+second_answer_found = (answer_at-exactly 32 certificate_32 abc_sums (0x7d73875b ∷ [])).1 abc_answer
 
 pub whole : (run new_pair script).world ≡ two_rounds
 whole = run_from-append to_first from_first new_pair ∙ (ap (λ w. (run_from from_first w).world) begins ∙ by_first first_answer_found second_answer_found)

@@ -4,9 +4,9 @@ use Rattle.std.specs.declared.option.Option.{Option}
 use Rattle.id_rules.specs.Ids.{KeyPair}
 use Rattle.wire_rules.specs.declared.message.Message.{Message}
 use Rattle.wire_rules.specs.declared.message.Message.TheVariants as message
-use Rattle.pool_rules.specs.Pools.{Held}
+use Rattle.pool_rules.specs.Pools.{Transaction}
 use Rattle.pool_rules.specs.declared.report.Report.{Report}
-use Rattle.node_rules.specs.Outcomes.{asks_in}
+use Rattle.node_rules.specs.Outcomes.{missing_short_ids}
 use Rattle.node_rules.specs.Stages.{extensions_in}
 use Rattle.node_rules.specs.Turns.{inv_of}
 use Rattle.node_rules.specs.declared.config.Config.{Config}
@@ -28,7 +28,7 @@ outcomes ms = filter is_outcome ms
 -- the difference that an opener sends, by the extensions of the sketch that answered: it asks for the short ids that it has
 -- answered and not sketched
 unfoldable pub difference_of : Option ℕ → KeyPair → Report → Message
-difference_of (Some n) keys r = message.ReconcilDiff true (asks_in (snapshot_of keys r) r.answered)
+difference_of (Some n) keys r = message.ReconcilDiff true (missing_short_ids (snapshot_of keys r) r.answered)
 difference_of None keys r = message.ReconcilDiff false []
 
 -- what a side says of a round: an opener its difference, and then each side one announcement. Of an answered round that is of
@@ -41,11 +41,11 @@ outcome_of role.Accepter keys r = inv_of (announced_of keys r)
 abbrev pub outcomes_of : Role → KeyPair → List Report → List Message
 outcomes_of side keys reports = flat_map (outcome_of side keys) reports
 
-pub record AnnounceOnly (x : Effect) : Type 0 where
+pub record HaveAnnouncedOnly (x : Effect) : Type 0 where
   pub by_a : outcomes x.by_a ≡ outcomes_of role.Opener (pair_keys x.world) x.world.a.machine.reports
   pub by_b : outcomes x.by_b ≡ outcomes_of role.Accepter (pair_keys x.world) x.world.b.machine.reports
 
 -- over every run, also one in which a node ends, each side says this of its rounds, in their order, and announces nothing else
 abbrev pub RoundsAreAnnounced : Type 0
 RoundsAreAnnounced =
-    (c d : Config) (p q : List Held) (script : List Event) → ArePair c d p q → IsScript script → AnnounceOnly (run (opening_world c d p q) script)
+    (c d : Config) (p q : List Transaction) (script : List Event) → ArePair c d p q → IsScript script → HaveAnnouncedOnly (run (opening_world c d p q) script)

@@ -4,11 +4,11 @@ use Rattle.base_types.specs.declared.lists.Hash32.{Hash32}
 use Rattle.id_rules.specs.Ids.{wtxid}
 use Rattle.wire_rules.specs.declared.message.Message.{Message}
 use Rattle.wire_rules.specs.declared.message.Message.TheVariants as message
-use Rattle.pool_rules.specs.Pools.{Held, Distinct}
+use Rattle.pool_rules.specs.Pools.{Transaction, AreDistinctIds}
 use Rattle.node_rules.specs.Handshake.{opening_messages}
-use Rattle.node_rules.specs.Steps.{count_of, begins}
+use Rattle.node_rules.specs.Steps.{count_of, on_start}
 use Rattle.node_rules.specs.declared.config.Config.{Config}
-use Rattle.pair_rules.specs.World.{World, Effect, ArePair, IsScript, opening_world, run, happens, has_end}
+use Rattle.pair_rules.specs.World.{World, Effect, ArePair, IsScript, opening_world, run, effect_of, has_end}
 use Rattle.pair_rules.specs.declared.event.Event.{Event}
 use Rattle.pair_rules.specs.declared.event.Event.TheVariants as event
 
@@ -50,7 +50,7 @@ all_messages c d x = (opening_messages c ++ x.by_a) ++ (opening_messages d ++ x.
 
 -- how many rounds an event begins
 unfoldable pub rounds_of_event : World → Event → ℕ
-rounds_of_event w event.Round = count_of (begins w.a).begun
+rounds_of_event w event.Round = count_of (on_start w.a).begun
 rounds_of_event w other = 0
 
 unfoldable pub rounds_unless_ended : Bool → ℕ → ℕ
@@ -60,7 +60,7 @@ rounds_unless_ended false n = n
 -- and a script, up to the event in which a node ends
 unfoldable pub rounds_of_script : List Event → World → ℕ
 rounds_of_script [] w = 0
-rounds_of_script (e ∷ es) w = rounds_unless_ended (has_end w) (rounds_of_event w e + rounds_of_script es (happens w e).world)
+rounds_of_script (e ∷ es) w = rounds_unless_ended (has_end w) (rounds_of_event w e + rounds_of_script es (effect_of w e).world)
 
 -- the most messages of a round besides `tx`, at a level: `reqrecon`, `sketch`, `reconcildiff`, `inv` and `getdata` of each
 -- side, `ping` and `pong`, and two more for each extension
@@ -71,12 +71,12 @@ round_messages level = 9 + 2 * level
 pub record AreBounded (level : ℕ) (sent : List Message) (begun : ℕ) : Type 0 where
   pub handshake : length (filter is_of_handshake sent) ≤ 8
   pub rounds : length (filter is_of_rounds sent) ≤ round_messages level * begun
-  pub once : Distinct (transaction_ids sent)
+  pub once : AreDistinctIds (transaction_ids sent)
   pub all_found : filter is_notfound sent ≡ []
 
 -- both sides together send at most 8 messages of the handshake, at most 11 others than transactions for each round begun, or
 -- 13 where both offer the second level, each transaction at most once over both directions, and no `notfound`
 abbrev pub MessagesAreBounded : Type 0
 MessagesAreBounded =
-    (c d : Config) (p q : List Held) (script : List Event) → ArePair c d p q → IsScript script
+    (c d : Config) (p q : List Transaction) (script : List Event) → ArePair c d p q → IsScript script
     → AreBounded (min c.top d.top) (all_messages c d (run (opening_world c d p q) script)) (rounds_of_script script (opening_world c d p q))

@@ -5,8 +5,8 @@ use Rattle.std.specs.declared.option.Option.{Option}
 use Rattle.base_types.specs.declared.lists.Hash32.{Hash32}
 use Rattle.id_rules.specs.Ids.{KeyPair, keys_of}
 use Rattle.wire_rules.specs.declared.phase.Phase.TheVariants as phase
-use Rattle.pool_rules.specs.Pools.{in_pool}
-use Rattle.pool_rules.specs.Snapshots.{Member, Apart, members, gap}
+use Rattle.pool_rules.specs.Pools.{is_in_pool}
+use Rattle.pool_rules.specs.Snapshots.{Member, IsCollisionFree, members, snapshot_difference}
 use Rattle.pool_rules.specs.declared.report.Ending.TheVariants as ending
 use Rattle.pool_rules.specs.declared.report.Report.{Report}
 use Rattle.node_rules.specs.Outcomes.{announcement}
@@ -36,26 +36,26 @@ capacity_by (Some n) c = capacity_after c n
 capacity_by None c = 0
 
 -- the capacity of the sketch that answered
-abbrev pub answering : Report → ℕ
-answering r = capacity_by (extensions_in r.ending) r.capacity
+abbrev pub answering_capacity : Report → ℕ
+answering_capacity r = capacity_by (extensions_in r.ending) r.capacity
 
 -- the short ids of both snapshots are apart, and what they differ in is no more than the sketch that answered can hold
 pub record IsFitting (keys : KeyPair) (ra rb : Report) : Type 0 where
-  pub apart : Apart (snapshot_of keys ra) (snapshot_of keys rb)
-  pub small : length (gap (snapshot_of keys ra) (snapshot_of keys rb)) ≤ answering ra
+  pub apart : IsCollisionFree (snapshot_of keys ra) (snapshot_of keys rb)
+  pub small : length (snapshot_difference (snapshot_of keys ra) (snapshot_of keys rb)) ≤ answering_capacity ra
 
 -- a round fits where it fell back, or where it is fitting
-abbrev pub Fits : KeyPair → Report → Report → Type 0
-Fits keys ra rb = (ra.ending ≡ ending.Fallback) ⊎ IsFitting keys ra rb
+abbrev pub IsReconcilable : KeyPair → Report → Report → Type 0
+IsReconcilable keys ra rb = (ra.ending ≡ ending.Fallback) ⊎ IsFitting keys ra rb
 
-pub record InBoth (w : World) (id : Hash32) : Type 0 where
-  pub a : IsTrue (in_pool w.a.pool id)
-  pub b : IsTrue (in_pool w.b.pool id)
+pub record IsInBoth (w : World) (id : Hash32) : Type 0 where
+  pub a : IsTrue (is_in_pool w.a.pool id)
+  pub b : IsTrue (is_in_pool w.b.pool id)
 
 -- each id of both snapshots is in both pools
-pub record Holds (w : World) (ra rb : Report) : Type 0 where
-  pub of_a : AllByRecursion (InBoth w) ra.snapshot
-  pub of_b : AllByRecursion (InBoth w) rb.snapshot
+pub record HasBothSnapshots (w : World) (ra rb : Report) : Type 0 where
+  pub of_a : AllByRecursion (IsInBoth w) ra.snapshot
+  pub of_b : AllByRecursion (IsInBoth w) rb.snapshot
 
 -- there are as many reports on both sides, and P holds of those of each round
 unfoldable pub EachRound : (Report → Report → Type 0) → List Report → List Report → Type 0
@@ -74,5 +74,5 @@ pub record IsQuiet (s : NodeState) : Type 0 where
 pub record IsFinished (w : World) : Type 0 where
   pub quiet_a : IsQuiet w.a
   pub quiet_b : IsQuiet w.b
-  pub rounds : EachRound (λ ra rb. Fits (pair_keys w) ra rb → Holds w ra rb) w.a.machine.reports w.b.machine.reports
+  pub rounds : EachRound (λ ra rb. IsReconcilable (pair_keys w) ra rb → HasBothSnapshots w ra rb) w.a.machine.reports w.b.machine.reports
   pub begun : w.a.requests.begun ≡ length w.a.machine.reports % 2 ^ 64

@@ -3,7 +3,7 @@ use Rattle.std.proofs.Common.{◌≡◌, ◌⊎◌, inl, inr, ℕ, suc, ◌+◌,
 use Rattle.std.proofs.lemmas.List.{take_more, take_all, length-take-le, length-map, map-append}
 use Rattle.field_rules.specs.Ops.{Ops, IsRing}
 use Rattle.field_rules.specs.Fields.{with_multiple}
-use Rattle.poly_rules.specs.Polynomials.{coefficient, Same, IsMonic, sum_of, scaled, product_of}
+use Rattle.poly_rules.specs.Polynomials.{coefficient, IsSamePolynomial, IsMonic, sum_of, scalar_multiple, product_of}
 use Rattle.poly_rules.specs.Remainders.{IsRemainder}
 use Rattle.poly_laws.specs.Rests.{IsRest}
 use Rattle.field_laws.proofs.RingFacts.{zero_plus}
@@ -28,8 +28,8 @@ module _ {A : Type 0} (ops : Ops A) where
   length-sum-r (a ∷ f) [] le = absurd (omega arith)
   length-sum-r (a ∷ f) (b ∷ g) le = ap suc (length-sum-r f g (omega arith))
 
-  -- adding a multiple place by place is a sum
-  pub with_multiple-sum : (k : A) (acc xs : List A) → length xs ≤ length acc → with_multiple ops acc k xs ≡ sum_of ops acc (scaled ops k xs)
+  -- adding a multiple item by item is a sum
+  pub with_multiple-sum : (k : A) (acc xs : List A) → length xs ≤ length acc → with_multiple ops acc k xs ≡ sum_of ops acc (scalar_multiple ops k xs)
   unfolding with_multiple sum_of
   with_multiple-sum k [] [] le = refl
   with_multiple-sum k [] (x ∷ xs) le = absurd (omega arith)
@@ -38,13 +38,13 @@ module _ {A : Type 0} (ops : Ops A) where
 
 module _ {A : Type 0} (ops : Ops A) (ring : IsRing ops) where
   -- a sum at whose start one of the two has nothing
-  sum_behind : (u f g : List A) → Same ops (sum_of ops (replicate (length u) ops.zero ++ f) (u ++ g)) (u ++ sum_of ops f g)
+  sum_behind : (u f g : List A) → IsSamePolynomial ops (sum_of ops (replicate (length u) ops.zero ++ f) (u ++ g)) (u ++ sum_of ops f g)
   unfolding sum_of
   sum_behind [] f g = same_self ops (sum_of ops f g)
   sum_behind (a ∷ u) f g = same_cons ops (ops.plus ops.zero a) a (zero_plus ops ring a) (sum_behind u f g)
 
   -- what is added to the lower coefficients is taken away again
-  sum_back : (k top : A) (l t : List A) → length t ≡ length l → Same ops (sum_of ops (scaled ops k l ++ top ∷ []) (sum_of ops t (scaled ops k l))) (t ++ top ∷ [])
+  sum_back : (k top : A) (l t : List A) → length t ≡ length l → IsSamePolynomial ops (sum_of ops (scalar_multiple ops k l ++ top ∷ []) (sum_of ops t (scalar_multiple ops k l))) (t ++ top ∷ [])
   unfolding sum_of
   sum_back k top [] [] e = same_self ops (top ∷ [])
   sum_back k top [] (a ∷ t) e = absurd (omega arith)
@@ -56,26 +56,26 @@ module _ {A : Type 0} (ops : Ops A) (ring : IsRing ops) where
 
   -- one step: the highest coefficient k goes, and k times f's lower coefficients are added to the n below it
   pub division_step : (n : ℕ) (f u t : List A) (k : A) → IsMonic ops n f → length t ≡ n
-      → IsRest ops f (u ++ (t ++ k ∷ [])) (u ++ sum_of ops t (scaled ops k (take n f)))
+      → IsRest ops f (u ++ (t ++ k ∷ [])) (u ++ sum_of ops t (scalar_multiple ops k (take n f)))
   division_step n f u t k monic size = record {
     quotient = replicate (length u) ops.zero ++ k ∷ [];
-    divides = same_back ops (same_along ops (sum_same ops ring shifted (same_self ops (u ++ sum_of ops t (scaled ops k (take n f)))))
-        (same_along ops (sum_behind u (scaled ops k (take n f) ++ k ∷ []) (sum_of ops t (scaled ops k (take n f)))) (under u (sum_back k k (take n f) t even))));
+    divides = same_back ops (same_along ops (sum_same ops ring shifted (same_self ops (u ++ sum_of ops t (scalar_multiple ops k (take n f)))))
+        (same_along ops (sum_behind u (scalar_multiple ops k (take n f) ++ k ∷ []) (sum_of ops t (scalar_multiple ops k (take n f)))) (under u (sum_back k k (take n f) t even))));
   }
     where
       even : length t ≡ length (take n f)
       even = size ∙ sym (length-take-le n f (omega (arith, monic.size)))
 
-      parts : scaled ops k f ≡ scaled ops k (take n f) ++ k ∷ []
+      parts : scalar_multiple ops k f ≡ scalar_multiple ops k (take n f) ++ k ∷ []
       parts =
-          ap (scaled ops k) (monic-split ops n f monic)
+          ap (scalar_multiple ops k) (monic-split ops n f monic)
           ∙ map-append (λ a. ops.times k a) (take n f) (ops.one ∷ [])
-          ∙ ap (λ z. scaled ops k (take n f) ++ z ∷ []) (ring.times_one k)
+          ∙ ap (λ z. scalar_multiple ops k (take n f) ++ z ∷ []) (ring.times_one k)
 
-      shifted : Same ops (product_of ops (replicate (length u) ops.zero ++ k ∷ []) f) (replicate (length u) ops.zero ++ (scaled ops k (take n f) ++ k ∷ []))
+      shifted : IsSamePolynomial ops (product_of ops (replicate (length u) ops.zero ++ k ∷ []) f) (replicate (length u) ops.zero ++ (scalar_multiple ops k (take n f) ++ k ∷ []))
       shifted = same_along ops (product_term ops ring (length u) k f) (same_of ops (ap (λ z. replicate (length u) ops.zero ++ z) parts))
 
-      under : (v : List A) {g h : List A} → Same ops g h → Same ops (v ++ g) (v ++ h)
+      under : (v : List A) {g h : List A} → IsSamePolynomial ops g h → IsSamePolynomial ops (v ++ g) (v ++ h)
       under [] e = e
       under (a ∷ v) e = same_cons ops a a refl (under v e)
 
@@ -101,7 +101,7 @@ module _ {A : Type 0} (ops : Ops A) (ring : IsRing ops) where
           cases i m = grind arith
 
           reduced : n ≤ length r → (s : List A) × IsRest ops f (a ∷ p) s × (length s ≤ n)
-          reduced long = (sum_of ops (take n (a ∷ r)) (scaled ops (coefficient ops (a ∷ r) n) (take n f)), whole, omega (arith, size))
+          reduced long = (sum_of ops (take n (a ∷ r)) (scalar_multiple ops (coefficient ops (a ∷ r) n) (take n f)), whole, omega (arith, size))
             where
               split : a ∷ r ≡ take n (a ∷ r) ++ coefficient ops (a ∷ r) n ∷ []
               split =
@@ -111,17 +111,17 @@ module _ {A : Type 0} (ops : Ops A) (ring : IsRing ops) where
               low : length (take n (a ∷ r)) ≡ n
               low = length-take-le n (a ∷ r) (omega arith)
 
-              size : length (sum_of ops (take n (a ∷ r)) (scaled ops (coefficient ops (a ∷ r) n) (take n f))) ≡ n
+              size : length (sum_of ops (take n (a ∷ r)) (scalar_multiple ops (coefficient ops (a ∷ r) n) (take n f))) ≡ n
               size =
-                  length-sum ops (take n (a ∷ r)) (scaled ops (coefficient ops (a ∷ r) n) (take n f))
+                  length-sum ops (take n (a ∷ r)) (scalar_multiple ops (coefficient ops (a ∷ r) n) (take n f))
                   (omega (arith, low, length-map (take n f) (λ b. ops.times (coefficient ops (a ∷ r) n) b), length-take-le n f (omega (arith, monic.size))))
                   ∙ low
 
-              whole : IsRest ops f (a ∷ p) (sum_of ops (take n (a ∷ r)) (scaled ops (coefficient ops (a ∷ r) n) (take n f)))
+              whole : IsRest ops f (a ∷ p) (sum_of ops (take n (a ∷ r)) (scalar_multiple ops (coefficient ops (a ∷ r) n) (take n f)))
               whole =
-                  rest_along ops ring f (a ∷ p) (a ∷ r) (sum_of ops (take n (a ∷ r)) (scaled ops (coefficient ops (a ∷ r) n) (take n f)))
+                  rest_along ops ring f (a ∷ p) (a ∷ r) (sum_of ops (take n (a ∷ r)) (scalar_multiple ops (coefficient ops (a ∷ r) n) (take n f)))
                   (rest_cons f p r a h)
-                  (subst (λ z. IsRest ops f z (sum_of ops (take n (a ∷ r)) (scaled ops (coefficient ops (a ∷ r) n) (take n f)))) (sym split)
+                  (subst (λ z. IsRest ops f z (sum_of ops (take n (a ∷ r)) (scalar_multiple ops (coefficient ops (a ∷ r) n) (take n f)))) (sym split)
                   (division_step n f [] (take n (a ∷ r)) (coefficient ops (a ∷ r) n) monic low))
 
           by_size : (length r < n) ⊎ (n ≤ length r) → (s : List A) × IsRest ops f (a ∷ p) s × (length s ≤ n)

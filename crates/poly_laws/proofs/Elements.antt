@@ -4,7 +4,7 @@ use Rattle.field_rules.specs.Ops.{Ops, IsRing}
 use Rattle.field_laws.proofs.RingFacts.{plus_swap, same_of_sum}
 
 module _ {A : Type 0} (ops : Ops A) (ring : IsRing ops) where
-  -- the first two of three terms change places
+  -- the first two of three terms are exchanged
   pub plus_turn : (a b c : A) → ops.plus a (ops.plus b c) ≡ ops.plus b (ops.plus a c)
   plus_turn a b c =
       sym (ring.plus_assoc a b c) ∙ ap (λ z. ops.plus z c) (ring.plus_comm a b) ∙ ring.plus_assoc b a c

@@ -2,18 +2,18 @@
 use Rattle.std.proofs.Common.{◌≡◌, ◌⊎◌, inl, inr, ℕ, zero, suc, ◌+◌, ◌<◌, ◌≤◌, List, [], ◌∷◌, ◌++◌, length, take, refl, sym, ap, ◌∙◌, arith, add-one}
 use Rattle.std.proofs.lemmas.List.{get_or_past, ext_get_or, take_more, take_all}
 use Rattle.field_rules.specs.Ops.{Ops, IsRing}
-use Rattle.poly_rules.specs.Polynomials.{coefficient, Same, IsTrimmed, IsMonic, sum_of, scaled, product_of}
+use Rattle.poly_rules.specs.Polynomials.{coefficient, IsSamePolynomial, IsTrimmed, IsMonic, sum_of, scalar_multiple, product_of}
 use Rattle.poly_rules.specs.Remainders.{IsRemainder}
 use Rattle.poly_laws.specs.Rests.{IsRest}
 use Rattle.field_laws.proofs.RingFacts.{zero_plus, times_zero}
-use Rattle.poly_laws.proofs.Sums.{same_self, same_back, same_along, same_none, coefficient-sum, coefficient-scaled, sum_same, sum_assoc, sum_swap, sum_across, sum_none_same}
+use Rattle.poly_laws.proofs.Sums.{same_self, same_back, same_along, same_none, coefficient-sum, coefficient-scalar_multiple, sum_same, sum_assoc, sum_swap, sum_across, sum_none_same}
 use Rattle.poly_laws.proofs.Products.{product_same_r, product_same_l, product_sum_r, product_sum_l, product_assoc, product_comm}
 
 -- ---- trimmed lists
 
 module _ {A : Type 0} (ops : Ops A) where
   -- a trimmed list is no longer than one that is the same polynomial
-  pub trimmed-shortest : (f g : List A) → IsTrimmed ops f → Same ops f g → length f ≤ length g
+  pub trimmed-shortest : (f g : List A) → IsTrimmed ops f → IsSamePolynomial ops f g → length f ≤ length g
   trimmed-shortest f g trimmed same = go (length f) refl
     where
       go : (n : ℕ) → length f ≡ n → n ≤ length g
@@ -28,7 +28,7 @@ module _ {A : Type 0} (ops : Ops A) where
           longer (inr long) = long
 
   -- trimmed lists that are one polynomial are one list
-  pub trimmed-same : (f g : List A) → IsTrimmed ops f → IsTrimmed ops g → Same ops f g → f ≡ g
+  pub trimmed-same : (f g : List A) → IsTrimmed ops f → IsTrimmed ops g → IsSamePolynomial ops f g → f ≡ g
   trimmed-same f g trimmed_f trimmed_g same =
       ext_get_or ops.zero f g even (λ i lt. same.each i)
     where
@@ -54,24 +54,24 @@ module _ {A : Type 0} (ops : Ops A) where
 module _ {A : Type 0} (ops : Ops A) (ring : IsRing ops) where
   -- ---- one remainder
 
-  -- a coefficient of the product, one place up
+  -- a coefficient of the product, one index up
   product-next : (a : A) (q f : List A) (i : ℕ) → coefficient ops (product_of ops (a ∷ q) f) (suc i) ≡ ops.plus (ops.times a (coefficient ops f (suc i))) (coefficient ops (product_of ops q f) i)
   unfolding product_of
   product-next a q f i =
-      coefficient-sum ops ring (scaled ops a f) (ops.zero ∷ product_of ops q f) (suc i)
-      ∙ ap (λ z. ops.plus z (coefficient ops (product_of ops q f) i)) (coefficient-scaled ops ring a f (suc i))
+      coefficient-sum ops ring (scalar_multiple ops a f) (ops.zero ∷ product_of ops q f) (suc i)
+      ∙ ap (λ z. ops.plus z (coefficient ops (product_of ops q f) i)) (coefficient-scalar_multiple ops ring a f (suc i))
 
-  -- the same at any place, where the rest of the first factor is nothing
-  product-last : (a : A) (q f : List A) (i : ℕ) → Same ops q [] → coefficient ops (product_of ops (a ∷ q) f) i ≡ ops.times a (coefficient ops f i)
+  -- the same at any index, where the rest of the first factor is nothing
+  product-last : (a : A) (q f : List A) (i : ℕ) → IsSamePolynomial ops q [] → coefficient ops (product_of ops (a ∷ q) f) i ≡ ops.times a (coefficient ops f i)
   unfolding product_of
   product-last a q f i none =
-      coefficient-sum ops ring (scaled ops a f) (ops.zero ∷ product_of ops q f) i
-      ∙ ap (ops.plus (coefficient ops (scaled ops a f) i)) ((same_none ops ops.zero refl (product_same_l ops ring f none)).each i)
-      ∙ ring.plus_zero (coefficient ops (scaled ops a f) i)
-      ∙ coefficient-scaled ops ring a f i
+      coefficient-sum ops ring (scalar_multiple ops a f) (ops.zero ∷ product_of ops q f) i
+      ∙ ap (ops.plus (coefficient ops (scalar_multiple ops a f) i)) ((same_none ops ops.zero refl (product_same_l ops ring f none)).each i)
+      ∙ ring.plus_zero (coefficient ops (scalar_multiple ops a f) i)
+      ∙ coefficient-scalar_multiple ops ring a f i
 
   -- a multiple of a monic polynomial with nothing from x ^ n on is that by nothing
-  pub small_multiple : (n : ℕ) (f : List A) → IsMonic ops n f → (q : List A) → ((i : ℕ) → n ≤ i → coefficient ops (product_of ops q f) i ≡ ops.zero) → Same ops q []
+  pub small_multiple : (n : ℕ) (f : List A) → IsMonic ops n f → (q : List A) → ((i : ℕ) → n ≤ i → coefficient ops (product_of ops q f) i ≡ ops.zero) → IsSamePolynomial ops q []
   small_multiple n f monic [] small = same_self ops []
   small_multiple n f monic (a ∷ q) small = joined (small_multiple n f monic q lower)
     where
@@ -85,18 +85,18 @@ module _ {A : Type 0} (ops : Ops A) (ring : IsRing ops) where
           ∙ sym (product-next a q f i)
           ∙ small (suc i) (omega arith)
 
-      joined : Same ops q [] → Same ops (a ∷ q) []
+      joined : IsSamePolynomial ops q [] → IsSamePolynomial ops (a ∷ q) []
       joined rest = same_none ops a
           (sym (ring.times_one a) ∙ ap (ops.times a) (sym monic.top) ∙ sym (product-last a q f n rest) ∙ small n (omega arith))
           rest
 
   -- two rests below the degree are one polynomial
-  pub rest_only : (n : ℕ) (f a r s : List A) → IsMonic ops n f → IsRest ops f a r → IsRest ops f a s → length r ≤ n → length s ≤ n → Same ops r s
+  pub rest_only : (n : ℕ) (f a r s : List A) → IsMonic ops n f → IsRest ops f a r → IsRest ops f a s → length r ≤ n → length s ≤ n → IsSamePolynomial ops r s
   unfolding product_of
   rest_only n f a r s monic h k short_r short_s =
       sum_none_same ops ring r s (same_along ops (same_back ops whole) (product_same_l ops ring f none))
     where
-      whole : Same ops (product_of ops (sum_of ops h.quotient k.quotient) f) (sum_of ops r s)
+      whole : IsSamePolynomial ops (product_of ops (sum_of ops h.quotient k.quotient) f) (sum_of ops r s)
       whole =
           same_along ops (product_sum_l ops ring h.quotient k.quotient f)
           (sum_across ops ring (product_of ops h.quotient f) r (product_of ops k.quotient f) s (same_along ops (same_back ops h.divides) k.divides))
@@ -109,14 +109,14 @@ module _ {A : Type 0} (ops : Ops A) (ring : IsRing ops) where
           ∙ ap (ops.plus ops.zero) (get_or_past s i ops.zero (omega arith))
           ∙ ring.plus_zero ops.zero
 
-      none : Same ops (sum_of ops h.quotient k.quotient) []
+      none : IsSamePolynomial ops (sum_of ops h.quotient k.quotient) []
       none = small_multiple n f monic (sum_of ops h.quotient k.quotient) small
 
   rest_of : (f a r : List A) → IsRemainder ops a f r → IsRest ops f a r
   rest_of f a r h = record { quotient = h.quotient; divides = h.divides }
 
   -- remainders by a monic polynomial are one polynomial
-  pub remainder_same : (n : ℕ) (f a r s : List A) → IsMonic ops n f → IsRemainder ops a f r → IsRemainder ops a f s → Same ops r s
+  pub remainder_same : (n : ℕ) (f a r s : List A) → IsMonic ops n f → IsRemainder ops a f r → IsRemainder ops a f s → IsSamePolynomial ops r s
   remainder_same n f a r s monic h k =
       rest_only n f a r s monic (rest_of f a r h) (rest_of f a s k) (omega (arith, monic.size, h.below)) (omega (arith, monic.size, k.below))
 
@@ -133,13 +133,13 @@ module _ {A : Type 0} (ops : Ops A) (ring : IsRing ops) where
   rest_self f a = record { quotient = []; divides = same_self ops a }
 
   -- what is the same polynomial as a rest is one, and has the same rests
-  pub rest_same : (f a r s : List A) → IsRest ops f a r → Same ops r s → IsRest ops f a s
+  pub rest_same : (f a r s : List A) → IsRest ops f a r → IsSamePolynomial ops r s → IsRest ops f a s
   rest_same f a r s h e = record {
     quotient = h.quotient;
     divides = same_along ops h.divides (sum_same ops ring (same_self ops (product_of ops h.quotient f)) e);
   }
 
-  pub rest_from : (f a b r : List A) → Same ops a b → IsRest ops f b r → IsRest ops f a r
+  pub rest_from : (f a b r : List A) → IsSamePolynomial ops a b → IsRest ops f b r → IsRest ops f a r
   rest_from f a b r e h = record { quotient = h.quotient; divides = same_along ops e h.divides }
 
   -- a rest of a rest is a rest
@@ -195,7 +195,7 @@ module _ {A : Type 0} (ops : Ops A) (ring : IsRing ops) where
       record { below = k.below; quotient = whole.quotient; divides = whole.divides }
 
   -- one polynomial has the same remainders
-  pub remainder_from : (f a b r : List A) → Same ops a b → IsRemainder ops b f r → IsRemainder ops a f r
+  pub remainder_from : (f a b r : List A) → IsSamePolynomial ops a b → IsRemainder ops b f r → IsRemainder ops a f r
   remainder_from f a b r e h = record { below = h.below; quotient = h.quotient; divides = same_along ops e h.divides }
 
   -- the remainder of a product is that of the remainders' product

@@ -4,11 +4,11 @@ use Rattle.std.proofs.lemmas.List.{length-map, get_or_past}
 use Rattle.std.specs.List.{All}
 use Rattle.field_rules.specs.Ops.{Ops, IsRing}
 use Rattle.field_rules.specs.Lists.{AreDistinct}
-use Rattle.poly_rules.specs.Polynomials.{coefficient, Same, IsMonic, value_at, sum_of, scaled, product_of}
+use Rattle.poly_rules.specs.Polynomials.{coefficient, IsSamePolynomial, IsMonic, value_at, sum_of, scalar_multiple, product_of}
 use Rattle.poly_rules.specs.Roots.{IsRoot, with_roots}
 use Rattle.field_laws.proofs.RingFacts.{zero_plus, times_zero, zero_times, one_times, same_of_sum}
 use Rattle.poly_laws.proofs.Elements.{plus_turn}
-use Rattle.poly_laws.proofs.Sums.{same_self, same_back, same_along, same_of, same_cons, same_none, coefficient-sum, coefficient-scaled, sum_same, sum_comm, sum_none}
+use Rattle.poly_laws.proofs.Sums.{same_self, same_back, same_along, same_of, same_cons, same_none, coefficient-sum, coefficient-scalar_multiple, sum_same, sum_comm, sum_none}
 use Rattle.poly_laws.proofs.Products.{product_none, product_cons, product_same_r}
 use Rattle.poly_laws.proofs.Division.{length-sum, length-sum-r}
 use Rattle.poly_laws.proofs.Values.{value_at-same, value_at-product}
@@ -33,8 +33,8 @@ module _ {A : Type 0} (ops : Ops A) (ring : IsRing ops) where
   value_at-factored r q x = value_at-product ops ring (r ∷ ops.one ∷ []) q x ∙ ap (λ z. ops.times z (value_at ops q x)) (value_at-factor r x)
 
   -- one coefficient more
-  quotient_step : (r a v : A) (q g : List A) → Same ops g (sum_of ops (product_of ops (r ∷ ops.one ∷ []) q) (v ∷ []))
-      → Same ops (a ∷ g) (sum_of ops (product_of ops (r ∷ ops.one ∷ []) (v ∷ q)) (ops.plus a (ops.times r v) ∷ []))
+  quotient_step : (r a v : A) (q g : List A) → IsSamePolynomial ops g (sum_of ops (product_of ops (r ∷ ops.one ∷ []) q) (v ∷ []))
+      → IsSamePolynomial ops (a ∷ g) (sum_of ops (product_of ops (r ∷ ops.one ∷ []) (v ∷ q)) (ops.plus a (ops.times r v) ∷ []))
   unfolding sum_of
   quotient_step r a v q g h = same_back ops
       (same_along ops
@@ -53,7 +53,7 @@ module _ {A : Type 0} (ops : Ops A) (ring : IsRing ops) where
           ∙ ring.plus_zero a
 
   -- f is x + r times the quotient, and its value at r
-  pub quotient_at-is : (r : A) (f : List A) → Same ops f (sum_of ops (product_of ops (r ∷ ops.one ∷ []) (quotient_at ops r f)) (value_at ops f r ∷ []))
+  pub quotient_at-is : (r : A) (f : List A) → IsSamePolynomial ops f (sum_of ops (product_of ops (r ∷ ops.one ∷ []) (quotient_at ops r f)) (value_at ops f r ∷ []))
   unfolding quotient_at value_at sum_of
   quotient_at-is r [] =
       same_back ops (sum_same ops ring {f' = []} {g' = []} (product_none ops ring (r ∷ ops.one ∷ [])) (same_none ops ops.zero refl (same_self ops [])))
@@ -64,7 +64,7 @@ module _ {A : Type 0} (ops : Ops A) (ring : IsRing ops) where
       quotient_step r a (value_at ops (b ∷ f) r) (quotient_at ops r (b ∷ f)) (b ∷ f) (quotient_at-is r (b ∷ f))
 
   -- at a root, x + r divides f
-  pub factor_of_root : (r : A) (f : List A) → IsRoot ops f r → Same ops f (product_of ops (r ∷ ops.one ∷ []) (quotient_at ops r f))
+  pub factor_of_root : (r : A) (f : List A) → IsRoot ops f r → IsSamePolynomial ops f (product_of ops (r ∷ ops.one ∷ []) (quotient_at ops r f))
   factor_of_root r f root =
       same_along ops (quotient_at-is r f)
       (same_along ops
@@ -103,31 +103,31 @@ module _ {A : Type 0} (ops : Ops A) (ring : IsRing ops) where
 
   -- one times g, as the product with x + r has it
   abbrev shifted : List A → List A
-  shifted g = sum_of ops (scaled ops ops.one g) (ops.zero ∷ [])
+  shifted g = sum_of ops (scalar_multiple ops ops.one g) (ops.zero ∷ [])
 
   factor-monic : (n : ℕ) (r : A) (g : List A) → IsMonic ops n g → IsMonic ops (suc n) (product_of ops (r ∷ ops.one ∷ []) g)
   unfolding product_of
   factor-monic n r g monic = record {
     size =
-        length-sum-r ops (scaled ops r g) (ops.zero ∷ shifted g) (omega (arith, length-map g (λ a. ops.times r a), length_shifted, monic.size))
+        length-sum-r ops (scalar_multiple ops r g) (ops.zero ∷ shifted g) (omega (arith, length-map g (λ a. ops.times r a), length_shifted, monic.size))
         ∙ ap suc length_shifted
         ∙ ap suc monic.size
         ∙ omega arith;
     top =
-        coefficient-sum ops ring (scaled ops r g) (ops.zero ∷ shifted g) (suc n)
-        ∙ ap (λ z. ops.plus z (coefficient ops (shifted g) n)) (get_or_past (scaled ops r g) (suc n) ops.zero (omega (arith, length-map g (λ a. ops.times r a), monic.size)))
+        coefficient-sum ops ring (scalar_multiple ops r g) (ops.zero ∷ shifted g) (suc n)
+        ∙ ap (λ z. ops.plus z (coefficient ops (shifted g) n)) (get_or_past (scalar_multiple ops r g) (suc n) ops.zero (omega (arith, length-map g (λ a. ops.times r a), monic.size)))
         ∙ zero_plus ops ring (coefficient ops (shifted g) n)
-        ∙ coefficient-sum ops ring (scaled ops ops.one g) (ops.zero ∷ []) n
-        ∙ ap (ops.plus (coefficient ops (scaled ops ops.one g) n)) ((same_none ops ops.zero refl (same_self ops [])).each n)
-        ∙ ring.plus_zero (coefficient ops (scaled ops ops.one g) n)
-        ∙ coefficient-scaled ops ring ops.one g n
+        ∙ coefficient-sum ops ring (scalar_multiple ops ops.one g) (ops.zero ∷ []) n
+        ∙ ap (ops.plus (coefficient ops (scalar_multiple ops ops.one g) n)) ((same_none ops ops.zero refl (same_self ops [])).each n)
+        ∙ ring.plus_zero (coefficient ops (scalar_multiple ops ops.one g) n)
+        ∙ coefficient-scalar_multiple ops ring ops.one g n
         ∙ one_times ops ring (coefficient ops g n)
         ∙ monic.top;
   }
     where
       length_shifted : length (shifted g) ≡ length g
       length_shifted =
-          length-sum ops (scaled ops ops.one g) (ops.zero ∷ []) (omega (arith, length-map g (λ a. ops.times ops.one a), monic.size))
+          length-sum ops (scalar_multiple ops ops.one g) (ops.zero ∷ []) (omega (arith, length-map g (λ a. ops.times ops.one a), monic.size))
           ∙ length-map g (λ a. ops.times ops.one a)
 
   -- it is monic, of as high a degree as there are factors
@@ -171,11 +171,11 @@ module _ {A : Type 0} (ops : Ops A) (ring : IsRing ops) where
         omega arith
 
     -- a monic polynomial with as many distinct roots as its degree is the product of their factors
-    pub factors_of_roots : (n : ℕ) (f rs : List A) → IsMonic ops n f → length rs ≡ n → All (IsRoot ops f) rs → AreDistinct rs → Same ops f (with_roots ops rs)
+    pub factors_of_roots : (n : ℕ) (f rs : List A) → IsMonic ops n f → length rs ≡ n → All (IsRoot ops f) rs → AreDistinct rs → IsSamePolynomial ops f (with_roots ops rs)
     unfolding with_roots
     factors_of_roots zero f [] monic e roots differ = whole f monic
       where
-        whole : (f : List A) → IsMonic ops 0 f → Same ops f (ops.one ∷ [])
+        whole : (f : List A) → IsMonic ops 0 f → IsSamePolynomial ops f (ops.one ∷ [])
         whole [] monic = absurd (omega (arith, monic.size))
         whole (a ∷ []) monic = same_cons ops a ops.one monic.top (same_self ops [])
         whole (a ∷ b ∷ f) monic = absurd (omega (arith, monic.size))

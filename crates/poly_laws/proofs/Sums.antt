@@ -1,26 +1,26 @@
 -- Sums of polynomials and multiples by an element.
 use Rattle.std.proofs.Common.{◌≡◌, ℕ, zero, suc, List, [], ◌∷◌, refl, sym, ap, ◌∙◌}
 use Rattle.field_rules.specs.Ops.{Ops, IsRing}
-use Rattle.poly_rules.specs.Polynomials.{coefficient, Same, sum_of, scaled}
+use Rattle.poly_rules.specs.Polynomials.{coefficient, IsSamePolynomial, sum_of, scalar_multiple}
 use Rattle.field_laws.proofs.RingFacts.{zero_plus, times_zero, zero_times, one_times, distributes_left, plus_swap, same_of_sum}
 use Rattle.poly_laws.proofs.Elements.{plus_turn, plus_across}
 
 module _ {A : Type 0} (ops : Ops A) where
   -- ---- one polynomial
 
-  pub same_self : (f : List A) → Same ops f f
+  pub same_self : (f : List A) → IsSamePolynomial ops f f
   same_self f = record { each = λ i. refl }
 
-  pub same_back : {f g : List A} → Same ops f g → Same ops g f
+  pub same_back : {f g : List A} → IsSamePolynomial ops f g → IsSamePolynomial ops g f
   same_back h = record { each = λ i. sym (h.each i) }
 
-  pub same_along : {f g h : List A} → Same ops f g → Same ops g h → Same ops f h
+  pub same_along : {f g h : List A} → IsSamePolynomial ops f g → IsSamePolynomial ops g h → IsSamePolynomial ops f h
   same_along h k = record { each = λ i. h.each i ∙ k.each i }
 
-  pub same_of : {f g : List A} → f ≡ g → Same ops f g
+  pub same_of : {f g : List A} → f ≡ g → IsSamePolynomial ops f g
   same_of e = record { each = λ i. ap (λ z. coefficient ops z i) e }
 
-  pub same_cons : {f g : List A} (a b : A) → a ≡ b → Same ops f g → Same ops (a ∷ f) (b ∷ g)
+  pub same_cons : {f g : List A} (a b : A) → a ≡ b → IsSamePolynomial ops f g → IsSamePolynomial ops (a ∷ f) (b ∷ g)
   same_cons {f} {g} a b e h = record { each = at }
     where
       at : (i : ℕ) → coefficient ops (a ∷ f) i ≡ coefficient ops (b ∷ g) i
@@ -28,7 +28,7 @@ module _ {A : Type 0} (ops : Ops A) where
       at (suc i) = h.each i
 
   -- x times nothing is nothing
-  pub same_none : {f : List A} (a : A) → a ≡ ops.zero → Same ops f [] → Same ops (a ∷ f) []
+  pub same_none : {f : List A} (a : A) → a ≡ ops.zero → IsSamePolynomial ops f [] → IsSamePolynomial ops (a ∷ f) []
   same_none {f} a e h = record { each = at }
     where
       at : (i : ℕ) → coefficient ops (a ∷ f) i ≡ ops.zero
@@ -36,7 +36,7 @@ module _ {A : Type 0} (ops : Ops A) where
       at (suc i) = h.each i
 
   -- the parts of a list that is nothing
-  pub same_tail : {f : List A} {a : A} → Same ops (a ∷ f) [] → Same ops f []
+  pub same_tail : {f : List A} {a : A} → IsSamePolynomial ops (a ∷ f) [] → IsSamePolynomial ops f []
   same_tail h = record { each = λ i. h.each (suc i) }
 
 module _ {A : Type 0} (ops : Ops A) (ring : IsRing ops) where
@@ -49,10 +49,10 @@ module _ {A : Type 0} (ops : Ops A) (ring : IsRing ops) where
   coefficient-sum (a ∷ f) (b ∷ g) zero = refl
   coefficient-sum (a ∷ f) (b ∷ g) (suc i) = coefficient-sum f g i
 
-  pub coefficient-scaled : (k : A) (f : List A) (i : ℕ) → coefficient ops (scaled ops k f) i ≡ ops.times k (coefficient ops f i)
-  coefficient-scaled k [] i = sym (times_zero ops ring k)
-  coefficient-scaled k (a ∷ f) zero = refl
-  coefficient-scaled k (a ∷ f) (suc i) = coefficient-scaled k f i
+  pub coefficient-scalar_multiple : (k : A) (f : List A) (i : ℕ) → coefficient ops (scalar_multiple ops k f) i ≡ ops.times k (coefficient ops f i)
+  coefficient-scalar_multiple k [] i = sym (times_zero ops ring k)
+  coefficient-scalar_multiple k (a ∷ f) zero = refl
+  coefficient-scalar_multiple k (a ∷ f) (suc i) = coefficient-scalar_multiple k f i
 
   -- ---- sums
 
@@ -61,7 +61,7 @@ module _ {A : Type 0} (ops : Ops A) (ring : IsRing ops) where
   sum_none [] = refl
   sum_none (a ∷ f) = refl
 
-  pub sum_same : {f f' g g' : List A} → Same ops f f' → Same ops g g' → Same ops (sum_of ops f g) (sum_of ops f' g')
+  pub sum_same : {f f' g g' : List A} → IsSamePolynomial ops f f' → IsSamePolynomial ops g g' → IsSamePolynomial ops (sum_of ops f g) (sum_of ops f' g')
   sum_same {f} {f'} {g} {g'} h k = record {
     each = λ i.
         coefficient-sum f g i
@@ -70,7 +70,7 @@ module _ {A : Type 0} (ops : Ops A) (ring : IsRing ops) where
         ∙ sym (coefficient-sum f' g' i);
   }
 
-  pub sum_comm : (f g : List A) → Same ops (sum_of ops f g) (sum_of ops g f)
+  pub sum_comm : (f g : List A) → IsSamePolynomial ops (sum_of ops f g) (sum_of ops g f)
   sum_comm f g = record {
     each = λ i.
         coefficient-sum f g i
@@ -78,17 +78,17 @@ module _ {A : Type 0} (ops : Ops A) (ring : IsRing ops) where
         ∙ sym (coefficient-sum g f i);
   }
 
-  pub sum_self : (f : List A) → Same ops (sum_of ops f f) []
+  pub sum_self : (f : List A) → IsSamePolynomial ops (sum_of ops f f) []
   sum_self f = record { each = λ i. coefficient-sum f f i ∙ ring.plus_self (coefficient ops f i) }
 
-  -- both sides of a law of three or four terms, read at a place
+  -- both sides of a law of three or four terms, read at an index
   at_three : (f g h : List A) (i : ℕ) → coefficient ops (sum_of ops f (sum_of ops g h)) i ≡ ops.plus (coefficient ops f i) (ops.plus (coefficient ops g i) (coefficient ops h i))
   at_three f g h i = coefficient-sum f (sum_of ops g h) i ∙ ap (ops.plus (coefficient ops f i)) (coefficient-sum g h i)
 
   at_four : (a b c d : List A) (i : ℕ) → coefficient ops (sum_of ops (sum_of ops a b) (sum_of ops c d)) i ≡ ops.plus (ops.plus (coefficient ops a i) (coefficient ops b i)) (ops.plus (coefficient ops c i) (coefficient ops d i))
   at_four a b c d i = at_three (sum_of ops a b) c d i ∙ ap (λ z. ops.plus z (ops.plus (coefficient ops c i) (coefficient ops d i))) (coefficient-sum a b i)
 
-  pub sum_assoc : (f g h : List A) → Same ops (sum_of ops (sum_of ops f g) h) (sum_of ops f (sum_of ops g h))
+  pub sum_assoc : (f g h : List A) → IsSamePolynomial ops (sum_of ops (sum_of ops f g) h) (sum_of ops f (sum_of ops g h))
   sum_assoc f g h = record {
     each = λ i.
         coefficient-sum (sum_of ops f g) h i
@@ -97,7 +97,7 @@ module _ {A : Type 0} (ops : Ops A) (ring : IsRing ops) where
         ∙ sym (at_three f g h i);
   }
 
-  pub sum_turn : (f g h : List A) → Same ops (sum_of ops f (sum_of ops g h)) (sum_of ops g (sum_of ops f h))
+  pub sum_turn : (f g h : List A) → IsSamePolynomial ops (sum_of ops f (sum_of ops g h)) (sum_of ops g (sum_of ops f h))
   sum_turn f g h = record {
     each = λ i.
         at_three f g h i
@@ -105,7 +105,7 @@ module _ {A : Type 0} (ops : Ops A) (ring : IsRing ops) where
         ∙ sym (at_three g f h i);
   }
 
-  pub sum_swap : (a b c d : List A) → Same ops (sum_of ops (sum_of ops a b) (sum_of ops c d)) (sum_of ops (sum_of ops a c) (sum_of ops b d))
+  pub sum_swap : (a b c d : List A) → IsSamePolynomial ops (sum_of ops (sum_of ops a b) (sum_of ops c d)) (sum_of ops (sum_of ops a c) (sum_of ops b d))
   sum_swap a b c d = record {
     each = λ i.
         at_four a b c d i
@@ -114,7 +114,7 @@ module _ {A : Type 0} (ops : Ops A) (ring : IsRing ops) where
   }
 
   -- of two sums that are one, the first terms and the last terms have one sum
-  pub sum_across : (a b c d : List A) → Same ops (sum_of ops a b) (sum_of ops c d) → Same ops (sum_of ops a c) (sum_of ops b d)
+  pub sum_across : (a b c d : List A) → IsSamePolynomial ops (sum_of ops a b) (sum_of ops c d) → IsSamePolynomial ops (sum_of ops a c) (sum_of ops b d)
   sum_across a b c d h = record {
     each = λ i.
         coefficient-sum a c i
@@ -124,59 +124,59 @@ module _ {A : Type 0} (ops : Ops A) (ring : IsRing ops) where
   }
 
   -- polynomials with the sum nothing are one
-  pub sum_none_same : (f g : List A) → Same ops (sum_of ops f g) [] → Same ops f g
+  pub sum_none_same : (f g : List A) → IsSamePolynomial ops (sum_of ops f g) [] → IsSamePolynomial ops f g
   sum_none_same f g h = record {
     each = λ i. same_of_sum ops ring (coefficient ops f i) (coefficient ops g i) (sym (coefficient-sum f g i) ∙ h.each i);
   }
 
   -- x times a sum
-  pub shift_sum : (f g : List A) → Same ops (ops.zero ∷ sum_of ops f g) (sum_of ops (ops.zero ∷ f) (ops.zero ∷ g))
+  pub shift_sum : (f g : List A) → IsSamePolynomial ops (ops.zero ∷ sum_of ops f g) (sum_of ops (ops.zero ∷ f) (ops.zero ∷ g))
   unfolding sum_of
   shift_sum f g = same_cons ops ops.zero (ops.plus ops.zero ops.zero) (sym (ring.plus_zero ops.zero)) (same_self ops (sum_of ops f g))
 
   -- ---- multiples by an element
 
-  pub scaled_same : {f g : List A} (k : A) → Same ops f g → Same ops (scaled ops k f) (scaled ops k g)
+  pub scaled_same : {f g : List A} (k : A) → IsSamePolynomial ops f g → IsSamePolynomial ops (scalar_multiple ops k f) (scalar_multiple ops k g)
   scaled_same {f} {g} k h = record {
-    each = λ i. coefficient-scaled k f i ∙ ap (ops.times k) (h.each i) ∙ sym (coefficient-scaled k g i);
+    each = λ i. coefficient-scalar_multiple k f i ∙ ap (ops.times k) (h.each i) ∙ sym (coefficient-scalar_multiple k g i);
   }
 
-  pub scaled_sum : (k : A) (f g : List A) → Same ops (scaled ops k (sum_of ops f g)) (sum_of ops (scaled ops k f) (scaled ops k g))
+  pub scaled_sum : (k : A) (f g : List A) → IsSamePolynomial ops (scalar_multiple ops k (sum_of ops f g)) (sum_of ops (scalar_multiple ops k f) (scalar_multiple ops k g))
   scaled_sum k f g = record {
     each = λ i.
-        coefficient-scaled k (sum_of ops f g) i
+        coefficient-scalar_multiple k (sum_of ops f g) i
         ∙ ap (ops.times k) (coefficient-sum f g i)
         ∙ ring.distributes k (coefficient ops f i) (coefficient ops g i)
-        ∙ ap (λ z. ops.plus z (ops.times k (coefficient ops g i))) (sym (coefficient-scaled k f i))
-        ∙ ap (ops.plus (coefficient ops (scaled ops k f) i)) (sym (coefficient-scaled k g i))
-        ∙ sym (coefficient-sum (scaled ops k f) (scaled ops k g) i);
+        ∙ ap (λ z. ops.plus z (ops.times k (coefficient ops g i))) (sym (coefficient-scalar_multiple k f i))
+        ∙ ap (ops.plus (coefficient ops (scalar_multiple ops k f) i)) (sym (coefficient-scalar_multiple k g i))
+        ∙ sym (coefficient-sum (scalar_multiple ops k f) (scalar_multiple ops k g) i);
   }
 
-  pub scaled_plus : (a b : A) (f : List A) → Same ops (scaled ops (ops.plus a b) f) (sum_of ops (scaled ops a f) (scaled ops b f))
+  pub scaled_plus : (a b : A) (f : List A) → IsSamePolynomial ops (scalar_multiple ops (ops.plus a b) f) (sum_of ops (scalar_multiple ops a f) (scalar_multiple ops b f))
   scaled_plus a b f = record {
     each = λ i.
-        coefficient-scaled (ops.plus a b) f i
+        coefficient-scalar_multiple (ops.plus a b) f i
         ∙ distributes_left ops ring a b (coefficient ops f i)
-        ∙ ap (λ z. ops.plus z (ops.times b (coefficient ops f i))) (sym (coefficient-scaled a f i))
-        ∙ ap (ops.plus (coefficient ops (scaled ops a f) i)) (sym (coefficient-scaled b f i))
-        ∙ sym (coefficient-sum (scaled ops a f) (scaled ops b f) i);
+        ∙ ap (λ z. ops.plus z (ops.times b (coefficient ops f i))) (sym (coefficient-scalar_multiple a f i))
+        ∙ ap (ops.plus (coefficient ops (scalar_multiple ops a f) i)) (sym (coefficient-scalar_multiple b f i))
+        ∙ sym (coefficient-sum (scalar_multiple ops a f) (scalar_multiple ops b f) i);
   }
 
-  pub scaled_scaled : (a b : A) (f : List A) → Same ops (scaled ops (ops.times a b) f) (scaled ops a (scaled ops b f))
+  pub scaled_scaled : (a b : A) (f : List A) → IsSamePolynomial ops (scalar_multiple ops (ops.times a b) f) (scalar_multiple ops a (scalar_multiple ops b f))
   scaled_scaled a b f = record {
     each = λ i.
-        coefficient-scaled (ops.times a b) f i
+        coefficient-scalar_multiple (ops.times a b) f i
         ∙ ring.times_assoc a b (coefficient ops f i)
-        ∙ ap (ops.times a) (sym (coefficient-scaled b f i))
-        ∙ sym (coefficient-scaled a (scaled ops b f) i);
+        ∙ ap (ops.times a) (sym (coefficient-scalar_multiple b f i))
+        ∙ sym (coefficient-scalar_multiple a (scalar_multiple ops b f) i);
   }
 
-  pub scaled_zero : (f : List A) → Same ops (scaled ops ops.zero f) []
-  scaled_zero f = record { each = λ i. coefficient-scaled ops.zero f i ∙ zero_times ops ring (coefficient ops f i) }
+  pub scaled_zero : (f : List A) → IsSamePolynomial ops (scalar_multiple ops ops.zero f) []
+  scaled_zero f = record { each = λ i. coefficient-scalar_multiple ops.zero f i ∙ zero_times ops ring (coefficient ops f i) }
 
-  pub scaled_one : (f : List A) → Same ops (scaled ops ops.one f) f
-  scaled_one f = record { each = λ i. coefficient-scaled ops.one f i ∙ one_times ops ring (coefficient ops f i) }
+  pub scaled_one : (f : List A) → IsSamePolynomial ops (scalar_multiple ops ops.one f) f
+  scaled_one f = record { each = λ i. coefficient-scalar_multiple ops.one f i ∙ one_times ops ring (coefficient ops f i) }
 
   -- a multiple of x times a polynomial
-  pub scaled_shift : (k : A) (f : List A) → Same ops (scaled ops k (ops.zero ∷ f)) (ops.zero ∷ scaled ops k f)
-  scaled_shift k f = same_cons ops (ops.times k ops.zero) ops.zero (times_zero ops ring k) (same_self ops (scaled ops k f))
+  pub scaled_shift : (k : A) (f : List A) → IsSamePolynomial ops (scalar_multiple ops k (ops.zero ∷ f)) (ops.zero ∷ scalar_multiple ops k f)
+  scaled_shift k f = same_cons ops (ops.times k ops.zero) ops.zero (times_zero ops ring k) (same_self ops (scalar_multiple ops k f))

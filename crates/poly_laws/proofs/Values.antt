@@ -1,13 +1,13 @@
 -- Values of sums, multiples and products.
 use Rattle.std.proofs.Common.{◌≡◌, zero, suc, List, [], ◌∷◌, refl, sym, ap, ◌∙◌}
 use Rattle.field_rules.specs.Ops.{Ops, IsRing}
-use Rattle.poly_rules.specs.Polynomials.{Same, value_at, sum_of, scaled, product_of}
+use Rattle.poly_rules.specs.Polynomials.{IsSamePolynomial, value_at, sum_of, scalar_multiple, product_of}
 use Rattle.poly_rules.specs.Remainders.{IsRemainder}
 use Rattle.field_laws.proofs.RingFacts.{zero_plus, times_zero, zero_times, distributes_left, plus_swap}
 use Rattle.poly_laws.proofs.Sums.{same_back, same_tail}
 
 module _ {A : Type 0} (ops : Ops A) (ring : IsRing ops) where
-  value_at-none : (f : List A) (x : A) → Same ops f [] → value_at ops f x ≡ ops.zero
+  value_at-none : (f : List A) (x : A) → IsSamePolynomial ops f [] → value_at ops f x ≡ ops.zero
   unfolding value_at
   value_at-none [] x e = refl
   value_at-none (a ∷ f) x e =
@@ -17,7 +17,7 @@ module _ {A : Type 0} (ops : Ops A) (ring : IsRing ops) where
       ∙ times_zero ops ring x
 
   -- one polynomial has one value
-  pub value_at-same : (f g : List A) (x : A) → Same ops f g → value_at ops f x ≡ value_at ops g x
+  pub value_at-same : (f g : List A) (x : A) → IsSamePolynomial ops f g → value_at ops f x ≡ value_at ops g x
   unfolding value_at
   value_at-same [] g x e = sym (value_at-none g x (same_back ops e))
   value_at-same (a ∷ f) [] x e = value_at-none (a ∷ f) x e
@@ -34,11 +34,11 @@ module _ {A : Type 0} (ops : Ops A) (ring : IsRing ops) where
       ∙ ap (ops.plus (ops.plus a b)) (ring.distributes x (value_at ops f x) (value_at ops g x))
       ∙ plus_swap ops ring a b (ops.times x (value_at ops f x)) (ops.times x (value_at ops g x))
 
-  pub value_at-scaled : (k : A) (f : List A) (x : A) → value_at ops (scaled ops k f) x ≡ ops.times k (value_at ops f x)
+  pub value_at-scalar_multiple : (k : A) (f : List A) (x : A) → value_at ops (scalar_multiple ops k f) x ≡ ops.times k (value_at ops f x)
   unfolding value_at
-  value_at-scaled k [] x = sym (times_zero ops ring k)
-  value_at-scaled k (a ∷ f) x =
-      ap (λ z. ops.plus (ops.times k a) (ops.times x z)) (value_at-scaled k f x)
+  value_at-scalar_multiple k [] x = sym (times_zero ops ring k)
+  value_at-scalar_multiple k (a ∷ f) x =
+      ap (λ z. ops.plus (ops.times k a) (ops.times x z)) (value_at-scalar_multiple k f x)
       ∙ ap (ops.plus (ops.times k a)) (sym (ring.times_assoc x k (value_at ops f x)) ∙ ap (λ z. ops.times z (value_at ops f x)) (ring.times_comm x k) ∙ ring.times_assoc k x (value_at ops f x))
       ∙ sym (ring.distributes k a (ops.times x (value_at ops f x)))
 
@@ -46,8 +46,8 @@ module _ {A : Type 0} (ops : Ops A) (ring : IsRing ops) where
   unfolding value_at product_of
   value_at-product [] g x = sym (zero_times ops ring (value_at ops g x))
   value_at-product (a ∷ f) g x =
-      value_at-sum (scaled ops a g) (ops.zero ∷ product_of ops f g) x
-      ∙ ap (λ z. ops.plus z (value_at ops (ops.zero ∷ product_of ops f g) x)) (value_at-scaled a g x)
+      value_at-sum (scalar_multiple ops a g) (ops.zero ∷ product_of ops f g) x
+      ∙ ap (λ z. ops.plus z (value_at ops (ops.zero ∷ product_of ops f g) x)) (value_at-scalar_multiple a g x)
       ∙ ap (ops.plus (ops.times a (value_at ops g x))) (zero_plus ops ring (ops.times x (value_at ops (product_of ops f g) x)) ∙ ap (ops.times x) (value_at-product f g x) ∙ sym (ring.times_assoc x (value_at ops f x) (value_at ops g x)))
       ∙ sym (distributes_left ops ring a (ops.times x (value_at ops f x)) (value_at ops g x))
 

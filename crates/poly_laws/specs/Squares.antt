@@ -3,10 +3,10 @@ use Rattle.std.specs.Prelude.{List, [], ◌∷◌, map}
 use Rattle.field_rules.specs.Ops.{Ops}
 
 -- each item with a zero behind it
-unfoldable pub spaced : {A : Type 0} → A → List A → List A
-spaced zero [] = []
-spaced zero (a ∷ xs) = a ∷ zero ∷ spaced zero xs
+unfoldable pub with_zeros : {A : Type 0} → A → List A → List A
+with_zeros zero [] = []
+with_zeros zero (a ∷ xs) = a ∷ zero ∷ with_zeros zero xs
 
 -- the squares of the coefficients, each with a zero behind it
-abbrev pub squares_apart : {A : Type 0} → Ops A → List A → List A
-squares_apart ops f = spaced ops.zero (map (λ a. ops.times a a) f)
+abbrev pub square_of : {A : Type 0} → Ops A → List A → List A
+square_of ops f = with_zeros ops.zero (map (λ a. ops.times a a) f)

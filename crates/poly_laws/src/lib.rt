@@ -7,16 +7,16 @@ ghost use Rattle.std.specs.List.{All};
 ghost use Rattle.field_rules.specs.Ops.{Ops, IsRing};
 ghost use Rattle.field_rules.specs.Fields.{IsField};
 ghost use Rattle.field_rules.specs.Lists.{AreDistinct};
-ghost use Rattle.poly_rules.specs.Polynomials.{Same, IsTrimmed, IsMonic, sum_of, product_of};
+ghost use Rattle.poly_rules.specs.Polynomials.{IsSamePolynomial, IsTrimmed, IsMonic, sum_of, product_of};
 ghost use Rattle.poly_rules.specs.Remainders.{IsRemainder};
 ghost use Rattle.poly_rules.specs.Roots.{IsRoot, with_roots};
-ghost use Rattle.poly_laws.specs.Squares.{squares_apart};
+ghost use Rattle.poly_laws.specs.Squares.{square_of};
 
 /// Each polynomial has one remainder by a monic polynomial. It does nothing when it runs: its contract is the
 /// theorem.
 pub fn one_remainder<A>()
     ensures exists { (ops : Ops A) (n : ℕ) (f a : List A) → IsRing ops → IsMonic ops n f → (r : List A) × IsRemainder ops a f r }
-    ensures unique { (ops : Ops A) (n : ℕ) (f a r s : List A) → IsRing ops → IsMonic ops n f → IsRemainder ops a f r → IsRemainder ops a f s → Same ops r s }
+    ensures unique { (ops : Ops A) (n : ℕ) (f a r s : List A) → IsRing ops → IsMonic ops n f → IsRemainder ops a f r → IsRemainder ops a f s → IsSamePolynomial ops r s }
     ensures one_list { (ops : Ops A) (n : ℕ) (f a r s : List A) → IsRing ops → IsMonic ops n f → IsRemainder ops a f r → IsRemainder ops a f s
         → IsTrimmed ops r → IsTrimmed ops s → r ≡ s }
 {}
@@ -32,7 +32,7 @@ pub fn remainders_respect_sums_and_products<A>()
 /// The square of a polynomial has the squares of its coefficients, each with a zero behind it. It does nothing when
 /// it runs: its contract is the theorem.
 pub fn squares_are_apart<A>()
-    ensures { (ops : Ops A) (f : List A) → IsRing ops → Same ops (product_of ops f f) (squares_apart ops f) }
+    ensures { (ops : Ops A) (f : List A) → IsRing ops → IsSamePolynomial ops (product_of ops f f) (square_of ops f) }
 {}
 
 /// A monic polynomial has no more roots than its degree, and one with as many is the product of their factors. It does
@@ -41,7 +41,7 @@ pub fn roots_are_within_the_degree<A>()
     ensures within { (ops : Ops A) (bits n : ℕ) (f rs : List A) → IsRing ops → IsField ops bits → IsMonic ops n f → All (IsRoot ops f) rs → AreDistinct rs
         → length rs ≤ n }
     ensures factors { (ops : Ops A) (bits n : ℕ) (f rs : List A) → IsRing ops → IsField ops bits → IsMonic ops n f → All (IsRoot ops f) rs → AreDistinct rs
-        → length rs ≡ n → Same ops f (with_roots ops rs) }
+        → length rs ≡ n → IsSamePolynomial ops f (with_roots ops rs) }
     ensures monic { (ops : Ops A) (rs : List A) → IsRing ops → IsMonic ops (length rs) (with_roots ops rs) }
     ensures roots { (ops : Ops A) (rs : List A) → IsRing ops → All (IsRoot ops (with_roots ops rs)) rs }
 {}

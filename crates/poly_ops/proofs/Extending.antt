@@ -4,7 +4,7 @@ use Rattle.std.proofs.lemmas.List.{take-append-le, drop-append-le, get_or_append
 use Rattle.field_rules.specs.Ops.{Ops}
 use Rattle.field_rules.specs.Fields.{dot_of}
 use Rattle.poly_rules.specs.Polynomials.{coefficient, degree}
-use Rattle.poly_rules.specs.Recurrences.{Extends}
+use Rattle.poly_rules.specs.Recurrences.{IsExtension}
 
 module _ {A : Type 0} (ops : Ops A) where
   -- what stands past the first list's end doesn't count
@@ -14,8 +14,8 @@ module _ {A : Type 0} (ops : Ops A) where
   dot_of-append (x ∷ xs) [] zs le = absurd (omega arith)
   dot_of-append (x ∷ xs) (y ∷ ys) zs le = ap (ops.plus (ops.times x y)) (dot_of-append xs ys zs (omega arith))
 
-  pub extended : (f sums values : List A) (i : ℕ) (y : A) → length sums ≤ i → degree f ≤ length sums → Extends ops f sums i values
-      → y ≡ dot_of ops (take (degree f) f) (drop (i - degree f) values) → Extends ops f sums (i + 1) (values ++ y ∷ [])
+  pub extended : (f sums values : List A) (i : ℕ) (y : A) → length sums ≤ i → degree f ≤ length sums → IsExtension ops f sums i values
+      → y ≡ dot_of ops (take (degree f) f) (drop (i - degree f) values) → IsExtension ops f sums (i + 1) (values ++ y ∷ [])
   extended f sums values i y long enough so_far is = record {
     size = length-append values (y ∷ []) ∙ ap (λ z. z + 1) so_far.size;
     begins = take-append-le (length sums) values (y ∷ []) (omega (arith, so_far.size)) ∙ so_far.begins;
@@ -35,16 +35,16 @@ module _ {A : Type 0} (ops : Ops A) where
 
       on : (k : ℕ) → length sums ≤ k + degree f → k + degree f < i + 1
           → coefficient ops (values ++ y ∷ []) (k + degree f) ≡ dot_of ops (take (degree f) f) (drop k (values ++ y ∷ []))
-      on k from below = by_place (cases (k + degree f) below)
+      on k from below = by_index (cases (k + degree f) below)
         where
-          by_place : (k + degree f < i) ⊎ (k + degree f ≡ i) → coefficient ops (values ++ y ∷ []) (k + degree f) ≡ dot_of ops (take (degree f) f) (drop k (values ++ y ∷ []))
-          by_place (inl lt) =
+          by_index : (k + degree f < i) ⊎ (k + degree f ≡ i) → coefficient ops (values ++ y ∷ []) (k + degree f) ≡ dot_of ops (take (degree f) f) (drop k (values ++ y ∷ []))
+          by_index (inl lt) =
               get_or_append_left values (y ∷ []) ops.zero (k + degree f) (omega (arith, so_far.size))
               ∙ so_far.goes_on k from lt
               ∙ sym (same k (omega arith))
-          by_place (inr e) =
-              let place : i - degree f ≡ k = omega arith in
+          by_index (inr e) =
+              let index : i - degree f ≡ k = omega arith in
               get_or_push values y ops.zero (k + degree f) (so_far.size ∙ sym e)
               ∙ is
-              ∙ ap (λ z. dot_of ops (take (degree f) f) (drop z values)) place
+              ∙ ap (λ z. dot_of ops (take (degree f) f) (drop z values)) index
               ∙ sym (same k (omega arith))

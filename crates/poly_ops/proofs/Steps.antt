@@ -4,7 +4,7 @@ use Rattle.std.proofs.Math.Seq.{drop-cons}
 use Rattle.std.proofs.lemmas.List.{take_more}
 use Rattle.field_rules.specs.Ops.{Ops}
 use Rattle.poly_rules.specs.Polynomials.{value_at}
-use Rattle.poly_laws.specs.Squares.{spaced}
+use Rattle.poly_laws.specs.Squares.{with_zeros}
 
 -- one coefficient more, of those from the top
 pub value_at-more : {A : Type 0} (ops : Ops A) (f : List A) (i : ℕ) (a x : A) → 0 < i → i ≤ length f → a ≡ get_or f (i - 1) a
@@ -22,18 +22,18 @@ value_at-past ops [] x = refl
 value_at-past ops (a ∷ f) x = value_at-past ops f x
 
 module _ {A : Type 0} (z : A) where
-  spaced-append : (xs ys : List A) → spaced z (xs ++ ys) ≡ spaced z xs ++ spaced z ys
-  unfolding spaced
-  spaced-append [] ys = refl
-  spaced-append (a ∷ xs) ys = ap (λ l. a ∷ z ∷ l) (spaced-append xs ys)
+  with_zeros-append : (xs ys : List A) → with_zeros z (xs ++ ys) ≡ with_zeros z xs ++ with_zeros z ys
+  unfolding with_zeros
+  with_zeros-append [] ys = refl
+  with_zeros-append (a ∷ xs) ys = ap (λ l. a ∷ z ∷ l) (with_zeros-append xs ys)
 
   -- one item more
-  pub spaced-more : (xs : List A) (i : ℕ) (a : A) → i < length xs → a ≡ get_or xs i a → (spaced z (take i xs) ++ a ∷ []) ++ z ∷ [] ≡ spaced z (take (i + 1) xs)
-  unfolding spaced
-  spaced-more xs i a lt is =
-      append_assoc (spaced z (take i xs)) (a ∷ []) (z ∷ [])
-      ∙ sym (ap (spaced z) (take_more xs i a lt ∙ ap (λ v. take i xs ++ v ∷ []) (sym is)) ∙ spaced-append (take i xs) (a ∷ []))
+  pub with_zeros-more : (xs : List A) (i : ℕ) (a : A) → i < length xs → a ≡ get_or xs i a → (with_zeros z (take i xs) ++ a ∷ []) ++ z ∷ [] ≡ with_zeros z (take (i + 1) xs)
+  unfolding with_zeros
+  with_zeros-more xs i a lt is =
+      append_assoc (with_zeros z (take i xs)) (a ∷ []) (z ∷ [])
+      ∙ sym (ap (with_zeros z) (take_more xs i a lt ∙ ap (λ v. take i xs ++ v ∷ []) (sym is)) ∙ with_zeros-append (take i xs) (a ∷ []))
 
-  pub spaced-none : spaced z [] ≡ []
-  unfolding spaced
-  spaced-none = refl
+  pub with_zeros-none : with_zeros z [] ≡ []
+  unfolding with_zeros
+  with_zeros-none = refl

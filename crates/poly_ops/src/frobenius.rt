@@ -1,7 +1,7 @@
 //! The powers `x ^ (2 ^ j)` modulo a polynomial.
 
 ghost use Rattle.std.specs.Prelude.{◌≡◌, ◌≤◌, IfOk};
-ghost use Rattle.poly_rules.specs.Polynomials.{degree, IsMonic, Same, x_to_the};
+ghost use Rattle.poly_rules.specs.Polynomials.{degree, IsMonic, IsSamePolynomial, monomial};
 ghost use Rattle.poly_rules.specs.Remainders.{IsFrobeniusTable};
 
 use crate::{Poly, rem_monic, square_mod};
@@ -28,7 +28,7 @@ pub fn frobenius_table<F: Field>(alloc: Global, f: &Poly<F>) -> Result<Vec<Poly<
 
 /// The polynomial x.
 fn variable<F: Field>(alloc: Global) -> Result<Poly<F>, OutOfMemory>
-    ensures { IfOk result (λ x. Same F.ops x (x_to_the F.ops 1)) }
+    ensures { IfOk result (λ x. IsSamePolynomial F.ops x (monomial F.ops 1)) }
 {
     let mut coefficients = Vec::with_capacity(alloc, 2)?;
     coefficients.push(F::ZERO)?;

@@ -1,7 +1,7 @@
 //! Polynomials as lists of coefficients.
 
 ghost use Rattle.std.specs.Prelude.{◌≡◌, ◌≢◌, ℕ, ◌+◌, ◌≤◌, length};
-ghost use Rattle.poly_rules.specs.Polynomials.{coefficient, Same, IsTrimmed, value_at};
+ghost use Rattle.poly_rules.specs.Polynomials.{coefficient, IsSamePolynomial, IsTrimmed, value_at};
 
 use field_core::Field;
 use std::marker::Model;
@@ -26,7 +26,7 @@ impl<F: Field> Model for Poly<F> {
 impl<F: Field> Poly<F> {
     /// The polynomial of these coefficients, the constant first. Zeros at the end are dropped. Takes no memory.
     pub fn from_coeffs(coeffs: Vec<F>) -> Poly<F>
-        ensures same { Same F.ops result coeffs.items }
+        ensures same { IsSamePolynomial F.ops result coeffs.items }
         ensures trimmed { IsTrimmed F.ops result }
         ensures no_longer { length result ≤ length coeffs.items }
     {

@@ -2,7 +2,7 @@
 
 ghost use Rattle.std.specs.Prelude.{◌≡◌, ◌≤◌, length, IfOk};
 ghost use Rattle.poly_rules.specs.Polynomials.{degree, IsMonic};
-ghost use Rattle.poly_rules.specs.Recurrences.{Extends};
+ghost use Rattle.poly_rules.specs.Recurrences.{IsExtension};
 
 use crate::Poly;
 use base_types::OutOfMemory;
@@ -21,7 +21,7 @@ pub fn extend_recurrence<F: Field>(
     requires degree { 1 ≤ degree f.now }
     requires enough { degree f.now ≤ length sums.now }
     requires longer { length sums.now ≤ n }
-    ensures { IfOk result (λ s. Extends F.ops f.now sums.now n s.items) }
+    ensures { IfOk result (λ s. IsExtension F.ops f.now sums.now n s.items) }
 {
     let degree = f.coeffs().len() - 1;
     let lower = &f.coeffs()[..degree];

@@ -4,7 +4,7 @@ ghost use Rattle.std.specs.Prelude.{◌≡◌, ℕ, ◌≤◌, length, take, IfO
 ghost use Rattle.poly_rules.specs.Polynomials.{degree, IsMonic, product_of};
 ghost use Rattle.poly_rules.specs.Remainders.{IsRemainder};
 ghost use Rattle.poly_laws.specs.Rests.{IsRest};
-ghost use Rattle.poly_laws.specs.Squares.{spaced};
+ghost use Rattle.poly_laws.specs.Squares.{with_zeros};
 
 use crate::Poly;
 use base_types::OutOfMemory;
@@ -43,7 +43,7 @@ fn reduced<F: Field>(coeffs: Vec<F>, f: &Poly<F>) -> Poly<F>
     Poly::from_coeffs(rest)
 }
 
-/// Long division by `f`: leaves a rest in the places below the degree.
+/// Long division by `f`: leaves a rest in the coefficients below the degree.
 fn divide<F: Field>(rest: &mut [F], f: &[F])
     requires monic { IsMonic F.ops (degree f.now) f.now }
     requires degree { 1 ≤ degree f.now }
@@ -59,7 +59,7 @@ fn divide<F: Field>(rest: &mut [F], f: &[F])
 
 /// The items, each with a zero behind it.
 fn with_zeros_between<F: Field>(alloc: Global, items: &[F]) -> Result<Vec<F>, OutOfMemory>
-    ensures { IfOk result (λ v. v.items ≡ spaced F.ops.zero items.now) }
+    ensures { IfOk result (λ v. v.items ≡ with_zeros F.ops.zero items.now) }
 {
     let mut spaced = Vec::with_capacity(alloc, items.len().saturating_mul(2))?;
     for a in items {

@@ -7,7 +7,7 @@ abbrev pub coefficient : {A : Type 0} → Ops A → List A → ℕ → A
 coefficient ops f i = get_or f i ops.zero
 
 -- one polynomial: two lists that are alike up to zeros at the end
-pub record Same {A : Type 0} (ops : Ops A) (f g : List A) : Type 0 where
+pub record IsSamePolynomial {A : Type 0} (ops : Ops A) (f g : List A) : Type 0 where
   pub each : (i : ℕ) → coefficient ops f i ≡ coefficient ops g i
 
 -- the last coefficient isn't zero
@@ -35,14 +35,14 @@ sum_of ops (a ∷ f) [] = a ∷ f
 sum_of ops (a ∷ f) (b ∷ g) = ops.plus a b ∷ sum_of ops f g
 
 -- k times each coefficient
-abbrev pub scaled : {A : Type 0} → Ops A → A → List A → List A
-scaled ops k f = map (λ a. ops.times k a) f
+abbrev pub scalar_multiple : {A : Type 0} → Ops A → A → List A → List A
+scalar_multiple ops k f = map (λ a. ops.times k a) f
 
 -- the product: (a + x * f) * g is a * g and x * (f * g)
 unfoldable pub product_of : {A : Type 0} → Ops A → List A → List A → List A
 product_of ops [] g = []
-product_of ops (a ∷ f) g = sum_of ops (scaled ops a g) (ops.zero ∷ product_of ops f g)
+product_of ops (a ∷ f) g = sum_of ops (scalar_multiple ops a g) (ops.zero ∷ product_of ops f g)
 
 -- x ^ n
-abbrev pub x_to_the : {A : Type 0} → Ops A → ℕ → List A
-x_to_the ops n = replicate n ops.zero ++ ops.one ∷ []
+abbrev pub monomial : {A : Type 0} → Ops A → ℕ → List A
+monomial ops n = replicate n ops.zero ++ ops.one ∷ []

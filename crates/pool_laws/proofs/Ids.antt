@@ -6,7 +6,7 @@ use Rattle.sha2.specs.Sha256.{sha256, digest_bytes, final_hash, initial_hash_256
 use Rattle.sha2.proofs.Facts256.{length-sha256}
 use Rattle.base_types.specs.declared.lists.Hash32.{Hash32}
 use Rattle.id_rules.specs.Bytes.{are_bytes, are_bytes_of}
-use Rattle.id_rules.specs.Ids.{KeyPair, wtxid, salted, key_in, keys_of, short_id}
+use Rattle.id_rules.specs.Ids.{KeyPair, wtxid, salted_hash, key_in, keys_of, short_id}
 use Rattle.id_rules.proofs.Bytes.{are_bytes-append, are_bytes-high_first}
 
 -- ---- ids
@@ -27,9 +27,9 @@ wtxid-bytes tx = and_from (length (sha256 (sha256 tx)) == 32) (are_bytes (sha256
 -- ---- keys and short ids
 
 -- both salts are hashed in one order
-keys_of-order : (x y : Bool) (a b : ℕ) → nat_le a b ≡ x → nat_le b a ≡ y → (if x then salted a b else salted b a) ≡ (if y then salted b a else salted a b)
+keys_of-order : (x y : Bool) (a b : ℕ) → nat_le a b ≡ x → nat_le b a ≡ y → (if x then salted_hash a b else salted_hash b a) ≡ (if y then salted_hash b a else salted_hash a b)
 keys_of-order true true a b h k =
-    let same : a ≡ b = (let up = leb-true a b h in let down = leb-true b a k in omega arith) in ap₂ salted same (sym same)
+    let same : a ≡ b = (let up = leb-true a b h in let down = leb-true b a k in omega arith) in ap₂ salted_hash same (sym same)
 keys_of-order true false a b h k = refl
 keys_of-order false true a b h k = refl
 keys_of-order false false a b h k = absurd (let up = leb-false a b h in let down = leb-false b a k in omega arith)

@@ -8,22 +8,22 @@ use Rattle.std.proofs.lemmas.List.Folds.{list_any-append}
 use Rattle.std.proofs.lemmas.List.Sums.{sum_by-append}
 use Rattle.base_types.specs.declared.lists.Hash32.{Hash32}
 use Rattle.id_rules.specs.Ids.{wtxid}
-use Rattle.pool_rules.specs.Pools.{Held, Distinct, IsHeld, IsPool, byte_count, bytes_fit, has_room, held, in_pool, insertion, insertion_by, listed, pool_ids, same_id}
+use Rattle.pool_rules.specs.Pools.{Transaction, AreDistinctIds, IsTransaction, IsPool, byte_count, has_byte_room, has_room, transaction_of, is_in_pool, insertion_of, insertion_by, is_listed, pool_ids, is_same_id}
 use Rattle.pool_rules.specs.declared.limits.TheConstants.{POOL_LIMIT, POOL_BYTES}
 use Rattle.pool_laws.specs.Outcomes.{IsOutcome}
 
 -- ---- equal ids
 
-pub same_id-self : (id : Hash32) → same_id id id ≡ true
-same_id-self id = (bytes_decides id.0 id.0).1 refl
+pub is_same_id-self : (id : Hash32) → is_same_id id id ≡ true
+is_same_id-self id = (bytes_decides id.0 id.0).1 refl
 
-pub same_id-equal : (a b : Hash32) → same_id a b ≡ true → a ≡ b
-same_id-equal a b e = ap (λ x. record { 0 = x }) ((bytes_decides a.0 b.0).0 e)
+pub is_same_id-equal : (a b : Hash32) → is_same_id a b ≡ true → a ≡ b
+is_same_id-equal a b e = ap (λ x. record { 0 = x }) ((bytes_decides a.0 b.0).0 e)
 
 -- ids that differ do so in either order
-same_id-other : (a b : Hash32) → same_id a b ≡ false → same_id b a ≡ false
-same_id-other a b differ =
-    false_from_ne_true (same_id b a) (λ same. both_ways (same_id a b) differ (subst (λ x. same_id x b ≡ true) (same_id-equal b a same) (same_id-self b)))
+is_same_id-other : (a b : Hash32) → is_same_id a b ≡ false → is_same_id b a ≡ false
+is_same_id-other a b differ =
+    false_from_ne_true (is_same_id b a) (λ same. both_ways (is_same_id a b) differ (subst (λ x. is_same_id x b ≡ true) (is_same_id-equal b a same) (is_same_id-self b)))
 
 both_false : (a b : Bool) → a ≡ false → b ≡ false → (a || b) ≡ false
 both_false a b e h = ap₂ (λ x y. x || y) e h
@@ -31,71 +31,71 @@ both_false a b e h = ap₂ (λ x y. x || y) e h
 -- ---- ids of which none stands twice
 
 -- an id that isn't listed may come behind them
-pub distinct-behind : (ids : List Hash32) (id : Hash32) → Distinct ids → listed ids id ≡ false → Distinct (ids ++ id ∷ [])
-unfolding Distinct
+pub distinct-behind : (ids : List Hash32) (id : Hash32) → AreDistinctIds ids → is_listed ids id ≡ false → AreDistinctIds (ids ++ id ∷ [])
+unfolding AreDistinctIds
 distinct-behind [] id d new = (refl, tt)
 distinct-behind (x ∷ xs) id d new =
-    let parts = or_parts (same_id x id) (listed xs id) new in
-    let other : (same_id id x || listed [] x) ≡ false = both_false (same_id id x) false (same_id-other x id parts.0) refl in
-    let absent : listed (xs ++ id ∷ []) x ≡ false = list_any-append (λ y. same_id y x) xs (id ∷ []) ∙ both_false (listed xs x) (same_id id x || listed [] x) (not-true (listed xs x) d.0) other in
+    let parts = or_parts (is_same_id x id) (is_listed xs id) new in
+    let other : (is_same_id id x || is_listed [] x) ≡ false = both_false (is_same_id id x) false (is_same_id-other x id parts.0) refl in
+    let absent : is_listed (xs ++ id ∷ []) x ≡ false = list_any-append (λ y. is_same_id y x) xs (id ∷ []) ∙ both_false (is_listed xs x) (is_same_id id x || is_listed [] x) (not-true (is_listed xs x) d.0) other in
     (ap not absent, distinct-behind xs id d.1 parts.1)
 
 -- an id isn't among those before it
-pub distinct-before : (ids : List Hash32) (id : Hash32) (more : List Hash32) → Distinct (ids ++ id ∷ more) → listed ids id ≡ false
-unfolding Distinct
+pub distinct-before : (ids : List Hash32) (id : Hash32) (more : List Hash32) → AreDistinctIds (ids ++ id ∷ more) → is_listed ids id ≡ false
+unfolding AreDistinctIds
 distinct-before [] id more d = refl
 distinct-before (x ∷ xs) id more d =
-    let absent = sym (list_any-append (λ y. same_id y x) xs (id ∷ more)) ∙ not-true (listed (xs ++ id ∷ more) x) d.0 in
-    let later = or_parts (listed xs x) (same_id id x || listed more x) absent in
-    let other = or_parts (same_id id x) (listed more x) later.1 in
-    both_false (same_id x id) (listed xs id) (same_id-other id x other.0) (distinct-before xs id more d.1)
+    let absent = sym (list_any-append (λ y. is_same_id y x) xs (id ∷ more)) ∙ not-true (is_listed (xs ++ id ∷ more) x) d.0 in
+    let later = or_parts (is_listed xs x) (is_same_id id x || is_listed more x) absent in
+    let other = or_parts (is_same_id id x) (is_listed more x) later.1 in
+    both_false (is_same_id x id) (is_listed xs id) (is_same_id-other id x other.0) (distinct-before xs id more d.1)
 
 -- an id is in a pool where it is among its ids
-pub in_pool-listed : (pool : List Held) (id : Hash32) → in_pool pool id ≡ listed (pool_ids pool) id
-in_pool-listed [] id = refl
-in_pool-listed (t ∷ ts) id = ap (λ b. same_id t.id id || b) (in_pool-listed ts id)
+pub is_in_pool-is_listed : (pool : List Transaction) (id : Hash32) → is_in_pool pool id ≡ is_listed (pool_ids pool) id
+is_in_pool-is_listed [] id = refl
+is_in_pool-is_listed (t ∷ ts) id = ap (λ b. is_same_id t.id id || b) (is_in_pool-is_listed ts id)
 
 -- ---- a transaction behind a pool
 
-each-behind : (P : Held → Type 0) (pool : List Held) (t : Held) → AllByRecursion P pool → P t → AllByRecursion P (pool ++ t ∷ [])
+each-behind : (P : Transaction → Type 0) (pool : List Transaction) (t : Transaction) → AllByRecursion P pool → P t → AllByRecursion P (pool ++ t ∷ [])
 each-behind P [] t each h = (h, tt)
 each-behind P (x ∷ xs) t each h = (each.0, each-behind P xs t each.1 h)
 
 -- what has room keeps both limits
-pub room-parts : (pool : List Held) (tx : List ℕ) → has_room pool tx ≡ true → (length pool < POOL_LIMIT) × (byte_count pool + length tx ≤ POOL_BYTES)
+pub room-parts : (pool : List Transaction) (tx : List ℕ) → has_room pool tx ≡ true → (length pool < POOL_LIMIT) × (byte_count pool + length tx ≤ POOL_BYTES)
 room-parts pool tx room =
-    let parts = and_parts (nat_lt (length pool) POOL_LIMIT) (bytes_fit pool tx) room in
+    let parts = and_parts (nat_lt (length pool) POOL_LIMIT) (has_byte_room pool tx) room in
     (ltb-true (length pool) POOL_LIMIT parts.0, leb-true (byte_count pool + length tx) POOL_BYTES parts.1)
 
 -- a new transaction that has room makes it a larger pool
-pub pool-behind : (pool : List Held) (tx : List ℕ) → IsPool pool → IsHeld (held tx) → in_pool pool (wtxid tx) ≡ false → has_room pool tx ≡ true → IsPool (pool ++ held tx ∷ [])
+pub pool-behind : (pool : List Transaction) (tx : List ℕ) → IsPool pool → IsTransaction (transaction_of tx) → is_in_pool pool (wtxid tx) ≡ false → has_room pool tx ≡ true → IsPool (pool ++ transaction_of tx ∷ [])
 pool-behind pool tx sound may new room =
     let parts = room-parts pool tx room in
-    let bytes = sum_by-append (λ t. length t.bytes) pool (held tx ∷ []) in
+    let bytes = sum_by-append (λ t. length t.bytes) pool (transaction_of tx ∷ []) in
     record {
-      distinct = subst Distinct (sym (map-append (λ t. t.id) pool (held tx ∷ []))) (distinct-behind (pool_ids pool) (wtxid tx) sound.distinct (sym (in_pool-listed pool (wtxid tx)) ∙ new));
-      each = each-behind IsHeld pool (held tx) sound.each may;
-      count = omega (arith, length-append pool (held tx ∷ []), parts.0);
+      distinct = subst AreDistinctIds (sym (map-append (λ t. t.id) pool (transaction_of tx ∷ []))) (distinct-behind (pool_ids pool) (wtxid tx) sound.distinct (sym (is_in_pool-is_listed pool (wtxid tx)) ∙ new));
+      each = each-behind IsTransaction pool (transaction_of tx) sound.each may;
+      count = omega (arith, length-append pool (transaction_of tx ∷ []), parts.0);
       size = omega (arith, bytes, parts.1);
     }
 
 -- by whether the pool has it, and whether it has room
-insertion-pool : (there room : Bool) (pool : List Held) (tx : List ℕ) → in_pool pool (wtxid tx) ≡ there → has_room pool tx ≡ room → IsPool pool → IsHeld (held tx)
+insertion_of-pool : (there room : Bool) (pool : List Transaction) (tx : List ℕ) → is_in_pool pool (wtxid tx) ≡ there → has_room pool tx ≡ room → IsPool pool → IsTransaction (transaction_of tx)
     → IsPool (insertion_by there room pool tx).pool
 unfolding insertion_by
-insertion-pool true room pool tx h k sound may = sound
-insertion-pool false false pool tx h k sound may = sound
-insertion-pool false true pool tx h k sound may = pool-behind pool tx sound may h k
+insertion_of-pool true room pool tx h k sound may = sound
+insertion_of-pool false false pool tx h k sound may = sound
+insertion_of-pool false true pool tx h k sound may = pool-behind pool tx sound may h k
 
-pub insertion-kept : (pool : List Held) (tx : List ℕ) → IsPool pool → IsHeld (held tx) → IsPool (insertion pool tx).pool
-insertion-kept pool tx sound may = insertion-pool (in_pool pool (wtxid tx)) (has_room pool tx) pool tx refl refl sound may
+pub insertion_of-kept : (pool : List Transaction) (tx : List ℕ) → IsPool pool → IsTransaction (transaction_of tx) → IsPool (insertion_of pool tx).pool
+insertion_of-kept pool tx sound may = insertion_of-pool (is_in_pool pool (wtxid tx)) (has_room pool tx) pool tx refl refl sound may
 
-outcome-by : (there room : Bool) (pool : List Held) (tx : List ℕ) → in_pool pool (wtxid tx) ≡ there → has_room pool tx ≡ room
+outcome-by : (there room : Bool) (pool : List Transaction) (tx : List ℕ) → is_in_pool pool (wtxid tx) ≡ there → has_room pool tx ≡ room
     → IsOutcome (insertion_by there room pool tx).inserted pool tx (insertion_by there room pool tx).pool
 unfolding insertion_by
 outcome-by true room pool tx h k = (h, refl)
 outcome-by false false pool tx h k = (h, k, refl)
 outcome-by false true pool tx h k = (h, k, refl)
 
-pub insertion-outcome : (pool : List Held) (tx : List ℕ) → IsOutcome (insertion pool tx).inserted pool tx (insertion pool tx).pool
-insertion-outcome pool tx = outcome-by (in_pool pool (wtxid tx)) (has_room pool tx) pool tx refl refl
+pub insertion_of-outcome : (pool : List Transaction) (tx : List ℕ) → IsOutcome (insertion_of pool tx).inserted pool tx (insertion_of pool tx).pool
+insertion_of-outcome pool tx = outcome-by (is_in_pool pool (wtxid tx)) (has_room pool tx) pool tx refl refl

@@ -7,23 +7,23 @@ ghost use Rattle.id_rules.specs.Bytes.{are_bytes_of};
 ghost use Rattle.id_rules.specs.Ids.{KeyPair, wtxid, keys_of, short_id};
 ghost use Rattle.pool_rules.specs.Capacity.{capacity, next_q, next_q_failed};
 ghost use Rattle.pool_rules.specs.PoolFile.{pool_text, pool_in};
-ghost use Rattle.pool_rules.specs.Pools.{Held, IsHeld, IsPool, held, insertion};
+ghost use Rattle.pool_rules.specs.Pools.{Transaction, IsTransaction, IsPool, transaction_of, insertion_of};
 ghost use Rattle.pool_rules.specs.declared.limits.TheConstants.{LEAST_CAPACITY, FIRST_LIMIT, POOL_FILE_LIMIT};
 ghost use Rattle.pool_laws.specs.Outcomes.{IsOutcome};
 
 /// The text of a pool is read as the pool, what is read of any text is a pool, and the text of a pool is within its limit.
 /// It does nothing when it runs: its contract is the theorem.
 pub fn written_pools_are_read()
-    ensures written { (pool : List Held) → IsPool pool → pool_in (pool_text pool) ≡ Ok pool }
-    ensures sound { (text : List ℕ) (pool : List Held) → pool_in text ≡ Ok pool → IsPool pool }
-    ensures short { (pool : List Held) → IsPool pool → length (pool_text pool) ≤ POOL_FILE_LIMIT }
+    ensures written { (pool : List Transaction) → IsPool pool → pool_in (pool_text pool) ≡ Ok pool }
+    ensures sound { (text : List ℕ) (pool : List Transaction) → pool_in text ≡ Ok pool → IsPool pool }
+    ensures short { (pool : List Transaction) → IsPool pool → length (pool_text pool) ≤ POOL_FILE_LIMIT }
 {}
 
 /// A pool into which bytes are put that may be a transaction stays a pool, and the answer says what became of it and why.
 /// It does nothing when it runs: its contract is the theorem.
 pub fn insertions_keep_pools()
-    ensures kept { (pool : List Held) (tx : List ℕ) → IsPool pool → IsHeld (held tx) → IsPool (insertion pool tx).pool }
-    ensures told { (pool : List Held) (tx : List ℕ) → IsOutcome (insertion pool tx).inserted pool tx (insertion pool tx).pool }
+    ensures kept { (pool : List Transaction) (tx : List ℕ) → IsPool pool → IsTransaction (transaction_of tx) → IsPool (insertion_of pool tx).pool }
+    ensures told { (pool : List Transaction) (tx : List ℕ) → IsOutcome (insertion_of pool tx).inserted pool tx (insertion_of pool tx).pool }
 {}
 
 /// An id has 32 bytes. It does nothing when it runs: its contract is the theorem.

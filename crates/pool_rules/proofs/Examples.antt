@@ -6,8 +6,8 @@ use Rattle.base_types.specs.declared.text.Kind.{Kind}
 use Rattle.base_types.specs.declared.text.Kind.TheVariants as kind
 use Rattle.base_types.specs.declared.text.TextFault.{TextFault}
 use Rattle.line_rules.specs.Lines.{line}
-use Rattle.pool_rules.specs.Pools.{Held, held, insertion}
-use Rattle.pool_rules.specs.Snapshots.{Member, Apart, sketched, aside, by_short, snapshot_sketch, snapshot_sums, gap}
+use Rattle.pool_rules.specs.Pools.{Transaction, transaction_of, insertion_of}
+use Rattle.pool_rules.specs.Snapshots.{Member, IsCollisionFree, sketched_members, colliding, id_of_short, snapshot_sketch, snapshot_sums, snapshot_difference}
 use Rattle.pool_rules.specs.Capacity.{capacity, next_q, next_q_failed}
 use Rattle.pool_rules.specs.PoolFile.{pool_text, pool_in}
 use Rattle.pool_rules.specs.declared.insertion.Inserted.TheVariants as inserted
@@ -52,11 +52,11 @@ member id short = record { id = id; short = short }
 abbrev three : List Member
 three = member hello_id 5 ∷ member abc_id 7 ∷ member other_id 5 ∷ []
 
-three_sketched : sketched three ≡ member abc_id 7 ∷ []
+three_sketched : sketched_members three ≡ member abc_id 7 ∷ []
 unfolding pooling
 three_sketched = refl
 
-three_aside : aside three ≡ member hello_id 5 ∷ member other_id 5 ∷ []
+three_aside : colliding three ≡ member hello_id 5 ∷ member other_id 5 ∷ []
 unfolding pooling
 three_aside = refl
 
@@ -69,11 +69,11 @@ three_extension : snapshot_sums three 1 1 ≡ 0x6b ∷ []
 unfolding pooling sketching
 three_extension = refl
 
-aside_unfound : by_short three 5 ≡ None
+aside_unfound : id_of_short three 5 ≡ None
 unfolding pooling
 aside_unfound = refl
 
-single_found : by_short three 7 ≡ Some abc_id
+single_found : id_of_short three 7 ≡ Some abc_id
 unfolding pooling
 single_found = refl
 
@@ -81,23 +81,23 @@ single_found = refl
 abbrev two : List Member
 two = member abc_id 7 ∷ member hello_id 9 ∷ []
 
-three_gap : gap three two ≡ 9 ∷ []
+three_gap : snapshot_difference three two ≡ 9 ∷ []
 unfolding pooling sketching
 three_gap = refl
 
-three_apart : Apart three two
+three_apart : IsCollisionFree three two
 unfolding pooling
 three_apart = ((λ same. refl, (λ same. absurd (cc), tt)), tt)
 
 -- a pool of one transaction: another one, and the same again
-abbrev one : List Held
-one = held (codes "hello") ∷ []
+abbrev one : List Transaction
+one = transaction_of (codes "hello") ∷ []
 
-another : insertion one (codes "abc") ≡ record { pool = held (codes "hello") ∷ held (codes "abc") ∷ []; inserted = inserted.New }
+another : insertion_of one (codes "abc") ≡ record { pool = transaction_of (codes "hello") ∷ transaction_of (codes "abc") ∷ []; inserted = inserted.New }
 unfolding pooling
 another = refl
 
-again : insertion one (codes "hello") ≡ record { pool = one; inserted = inserted.Present }
+again : insertion_of one (codes "hello") ≡ record { pool = one; inserted = inserted.Present }
 unfolding pooling
 again = refl
 
@@ -137,8 +137,8 @@ with_returns = refl
 
 -- the faults of a heading: no other form, no zero in front, nothing behind the number, no more than a pool may have, and
 -- the line's own number
-abbrev bad : ℕ → Kind → Result (List Held) TextFault
-bad place k = Err (record { place = place; kind = k })
+abbrev bad : ℕ → Kind → Result (List Transaction) TextFault
+bad number k = Err (record { place = number; kind = k })
 
 other_form : pool_in (codes "pool 3 0") ≡ bad 1 kind.Form
 unfolding pooling

@@ -2,32 +2,32 @@
 use Rattle.std.specs.Prelude.{codes}
 use Rattle.std.specs.Fmt.{digits}
 use Rattle.base_types.specs.declared.lists.Hash32.{Hash32}
-use Rattle.line_rules.specs.Lines.{lines, numbered}
+use Rattle.line_rules.specs.Lines.{lines, numbered_lines}
 use Rattle.line_rules.specs.Numbers.{digits_onto}
-use Rattle.line_rules.specs.Reading.{read_lines}
-use Rattle.field_rules.specs.Elements.{carryless_below, remainder, product}
+use Rattle.line_rules.specs.Reading.{line_fold}
+use Rattle.field_rules.specs.Elements.{carryless_product, remainder, product}
 use Rattle.field_rules.specs.Ops.{power}
 use Rattle.field_rules.specs.Lists.{sums_of_both}
-use Rattle.sketch_rules.specs.PowerSums.{power_sum, sums_from}
-use Rattle.sketch_rules.specs.Sets.{placed, ascending}
+use Rattle.sketch_rules.specs.PowerSums.{power_sum, odd_power_sums}
+use Rattle.sketch_rules.specs.Sets.{sorted_insertion, sorted_numbers}
 use Rattle.sketch_rules.specs.Sketches.{sums_in}
 use Rattle.id_rules.proofs.Samples.{hashing, from_digits}
-use Rattle.pool_rules.specs.Pools.{Distinct, insertion_by}
+use Rattle.pool_rules.specs.Pools.{AreDistinctIds, insertion_by}
 use Rattle.pool_rules.specs.PoolFile.{pool_step, pool_of_count, pool_of_lines}
 
 -- an example that has this in its line `unfolding` computes sums of sketches and differences of sets
 unfoldable pub sketching : Unit {0}
-unfolding carryless_below remainder product power power_sum sums_from placed ascending sums_of_both sums_in
+unfolding carryless_product remainder product power power_sum odd_power_sums sorted_insertion sorted_numbers sums_of_both sums_in
 sketching = tt
 
 -- the same for lines of text
 unfoldable pub lining : Unit {0}
-unfolding lines numbered read_lines digits digits_onto
+unfolding lines numbered_lines line_fold digits digits_onto
 lining = tt
 
 -- the same for pools
 unfoldable pub pooling : Unit {0}
-unfolding hashing lining Distinct insertion_by pool_step pool_of_count pool_of_lines
+unfolding hashing lining AreDistinctIds insertion_by pool_step pool_of_count pool_of_lines
 pooling = tt
 
 -- the ids of the bytes of 'hello' and 'abc'

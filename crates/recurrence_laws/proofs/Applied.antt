@@ -3,7 +3,7 @@ use Rattle.std.proofs.Common.{◌≡◌, ℕ, zero, suc, ◌+◌, ◌-◌, ◌<�
 use Rattle.std.proofs.lemmas.List.{drop-drop, drop-take}
 use Rattle.field_rules.specs.Ops.{Ops, IsRing}
 use Rattle.field_rules.specs.Fields.{dot_of}
-use Rattle.poly_rules.specs.Polynomials.{coefficient, Same, IsMonic, sum_of, scaled, product_of}
+use Rattle.poly_rules.specs.Polynomials.{coefficient, IsSamePolynomial, IsMonic, sum_of, scalar_multiple, product_of}
 use Rattle.field_laws.proofs.RingFacts.{zero_plus, one_times, times_zero, zero_times, distributes_left, plus_swap}
 use Rattle.poly_laws.proofs.Sums.{same_back, same_tail}
 
@@ -22,7 +22,7 @@ module _ {A : Type 0} (ops : Ops A) where
   dot_of-take (suc n) (a ∷ f) [] le = refl
   dot_of-take (suc n) (a ∷ f) (x ∷ s) le = ap (ops.plus (ops.times a x)) (dot_of-take n f s (omega arith))
 
-  -- from a place on, in the first n items
+  -- from an index on, in the first n items
   pub dot_of-prefix : (k n : ℕ) (f s : List A) → k + length f ≤ n → dot_of ops f (drop k (take n s)) ≡ dot_of ops f (drop k s)
   dot_of-prefix k n f s le =
       let split : n ≡ k + (n - k) = omega arith in
@@ -30,7 +30,7 @@ module _ {A : Type 0} (ops : Ops A) where
       ∙ ap (dot_of ops f) (drop-take k (n - k) s)
       ∙ dot_of-take (n - k) f (drop k s) (omega arith)
 
-  -- the sums of products of f with the items of s from each place on
+  -- the sums of products of f with the items of s from each index on
   abbrev pub dots_along : List A → List A → List A
   dots_along f [] = []
   dots_along f (x ∷ s) = dot_of ops f (x ∷ s) ∷ dots_along f s
@@ -42,7 +42,7 @@ module _ {A : Type 0} (ops : Ops A) where
   coefficient-dots_along f (x ∷ s) (suc i) = coefficient-dots_along f s i
 
 module _ {A : Type 0} (ops : Ops A) (ring : IsRing ops) where
-  dot_of-none : (f s : List A) → Same ops f [] → dot_of ops f s ≡ ops.zero
+  dot_of-none : (f s : List A) → IsSamePolynomial ops f [] → dot_of ops f s ≡ ops.zero
   unfolding dot_of
   dot_of-none [] s e = refl
   dot_of-none (a ∷ f) [] e = refl
@@ -53,7 +53,7 @@ module _ {A : Type 0} (ops : Ops A) (ring : IsRing ops) where
       ∙ dot_of-none f s (same_tail ops e)
 
   -- one polynomial gives one sum
-  pub dot_of-same : (f g s : List A) → Same ops f g → dot_of ops f s ≡ dot_of ops g s
+  pub dot_of-same : (f g s : List A) → IsSamePolynomial ops f g → dot_of ops f s ≡ dot_of ops g s
   unfolding dot_of
   dot_of-same [] g s e = sym (dot_of-none g s (same_back ops e))
   dot_of-same (a ∷ f) [] s e = dot_of-none (a ∷ f) s e
@@ -72,16 +72,16 @@ module _ {A : Type 0} (ops : Ops A) (ring : IsRing ops) where
       ∙ ap (ops.plus (ops.plus (ops.times a x) (ops.times b x))) (dot_of-sum f g s)
       ∙ plus_swap ops ring (ops.times a x) (ops.times b x) (dot_of ops f s) (dot_of ops g s)
 
-  pub dot_of-scaled : (k : A) (f s : List A) → dot_of ops (scaled ops k f) s ≡ ops.times k (dot_of ops f s)
+  pub dot_of-scalar_multiple : (k : A) (f s : List A) → dot_of ops (scalar_multiple ops k f) s ≡ ops.times k (dot_of ops f s)
   unfolding dot_of
-  dot_of-scaled k [] s = sym (times_zero ops ring k)
-  dot_of-scaled k (a ∷ f) [] = sym (times_zero ops ring k)
-  dot_of-scaled k (a ∷ f) (x ∷ s) =
-      ap (λ z. ops.plus z (dot_of ops (scaled ops k f) s)) (ring.times_assoc k a x)
-      ∙ ap (ops.plus (ops.times k (ops.times a x))) (dot_of-scaled k f s)
+  dot_of-scalar_multiple k [] s = sym (times_zero ops ring k)
+  dot_of-scalar_multiple k (a ∷ f) [] = sym (times_zero ops ring k)
+  dot_of-scalar_multiple k (a ∷ f) (x ∷ s) =
+      ap (λ z. ops.plus z (dot_of ops (scalar_multiple ops k f) s)) (ring.times_assoc k a x)
+      ∙ ap (ops.plus (ops.times k (ops.times a x))) (dot_of-scalar_multiple k f s)
       ∙ sym (ring.distributes k (ops.times a x) (dot_of ops f s))
 
-  -- x times a polynomial meets the items one place further on
+  -- x times a polynomial meets the items one index further on
   pub dot_of-shift : (f s : List A) → dot_of ops (ops.zero ∷ f) s ≡ dot_of ops f (drop 1 s)
   unfolding dot_of
   dot_of-shift f [] = sym (dot_of-nil ops f)
@@ -102,11 +102,11 @@ module _ {A : Type 0} (ops : Ops A) (ring : IsRing ops) where
   dot_of-product [] g s = refl
   dot_of-product (a ∷ f) g [] = dot_of-nil ops (product_of ops (a ∷ f) g)
   dot_of-product (a ∷ f) g (x ∷ s) =
-      dot_of-sum (scaled ops a g) (ops.zero ∷ product_of ops f g) (x ∷ s)
-      ∙ ap (λ z. ops.plus z (dot_of ops (ops.zero ∷ product_of ops f g) (x ∷ s))) (dot_of-scaled a g (x ∷ s))
+      dot_of-sum (scalar_multiple ops a g) (ops.zero ∷ product_of ops f g) (x ∷ s)
+      ∙ ap (λ z. ops.plus z (dot_of ops (ops.zero ∷ product_of ops f g) (x ∷ s))) (dot_of-scalar_multiple a g (x ∷ s))
       ∙ ap (ops.plus (ops.times a (dot_of ops g (x ∷ s)))) (dot_of-shift (product_of ops f g) (x ∷ s) ∙ dot_of-product f g s)
 
-  -- zeros at all of its places give zero
+  -- zeros at all of its indices give zero
   pub dot_of-zeros : (f w : List A) → ((i : ℕ) → i < length f → coefficient ops w i ≡ ops.zero) → dot_of ops f w ≡ ops.zero
   unfolding dot_of
   dot_of-zeros [] w zeros = refl
@@ -117,7 +117,7 @@ module _ {A : Type 0} (ops : Ops A) (ring : IsRing ops) where
       ∙ zero_plus ops ring (dot_of ops f w)
       ∙ dot_of-zeros f w (λ i lt. zeros (suc i) (omega arith))
 
-  -- zeros below the highest place of a monic polynomial leave the item there
+  -- zeros below the degree of a monic polynomial leave the item there
   pub dot_of-top : (n : ℕ) (f w : List A) → IsMonic ops n f → ((i : ℕ) → i < n → coefficient ops w i ≡ ops.zero) → dot_of ops f w ≡ coefficient ops w n
   unfolding dot_of
   dot_of-top n [] w monic zeros = absurd (omega (arith, monic.size))

@@ -1,17 +1,17 @@
--- A polynomial that first fails at some place of a sequence bounds the degree of each that holds there.
+-- A polynomial that first fails at some index of a sequence bounds the degree of each that holds there.
 use Rattle.std.proofs.Common.{◌≡◌, ◌⊎◌, inl, inr, ℕ, ◌+◌, ◌-◌, ◌<◌, ◌≤◌, List, ◌∷◌, length, take, drop, reverse, sym, ap, ◌∙◌, arith}
 use Rattle.std.proofs.lemmas.List.{drop-drop, length-take-le}
 use Rattle.field_rules.specs.Ops.{Ops, IsRing}
 use Rattle.field_rules.specs.Fields.{dot_of}
 use Rattle.poly_rules.specs.Polynomials.{coefficient, IsMonic, product_of}
-use Rattle.poly_rules.specs.Recurrences.{Recurs}
+use Rattle.poly_rules.specs.Recurrences.{IsRecurrence}
 use Rattle.poly_laws.proofs.Products.{product_comm}
 use Rattle.recurrence_laws.proofs.Applied.{dot_of-prefix, dots_along, coefficient-dots_along, dot_of-same, dot_of-product, dot_of-zeros, dot_of-top}
 use Rattle.recurrence_laws.proofs.Monic.{monic_form, monic_from_recurs, recurs_from_monic}
 
 module _ {A : Type 0} (ops : Ops A) (ring : IsRing ops) where
-  -- where f gives zero at the n places from p on, and g of degree n at as many as f has coefficients, f gives zero at
-  -- the next place too: the product of the two gives at p both what f gives there and what g makes of zeros
+  -- where f gives zero at the n indices from p on, and g of degree n at as many as f has coefficients, f gives zero at
+  -- the next index too: the product of the two gives at p both what f gives there and what g makes of zeros
   pub holds_on : (f g s : List A) (n p : ℕ) → IsMonic ops n g
       → ((i : ℕ) → i < n → dot_of ops f (drop (p + i) s) ≡ ops.zero)
       → ((i : ℕ) → i < length f → dot_of ops g (drop (p + i) s) ≡ ops.zero)
@@ -29,7 +29,7 @@ module _ {A : Type 0} (ops : Ops A) (ring : IsRing ops) where
 
   -- Massey 1969, theorem 1: where a recurrence holds of the first m items and not of one more, its length and that of
   -- each recurrence that holds of more items are together above m
-  pub lengths_together : (bs cs s : List A) (m : ℕ) → Recurs ops bs (take m s) → ¬ Recurs ops bs (take (m + 1) s) → m < length s → Recurs ops cs s → m + 1 ≤ length bs + length cs
+  pub lengths_together : (bs cs s : List A) (m : ℕ) → IsRecurrence ops bs (take m s) → ¬ IsRecurrence ops bs (take (m + 1) s) → m < length s → IsRecurrence ops cs s → m + 1 ≤ length bs + length cs
   lengths_together bs cs s m before after inside holds = by_lengths (cases m (length bs + length cs))
     where
       cases : (i j : ℕ) → (i + 1 ≤ j) ⊎ (j ≤ i)
@@ -60,17 +60,17 @@ module _ {A : Type 0} (ops : Ops A) (ring : IsRing ops) where
           at k (inl lt) = low k lt
           at k (inr e) = ap (λ z. dot_of ops (reverse (ops.one ∷ bs)) (drop z s)) e ∙ next
 
-          places : (k : ℕ) → k + length bs < m + 1 → (k + length bs < m) ⊎ (k ≡ m - length bs - length cs + length cs)
-          places k lt = place (meets (k + length bs) m lt)
+          indices : (k : ℕ) → k + length bs < m + 1 → (k + length bs < m) ⊎ (k ≡ m - length bs - length cs + length cs)
+          indices k lt = index (meets (k + length bs) m lt)
             where
               meets : (i j : ℕ) → i < j + 1 → (i < j) ⊎ (i ≡ j)
               meets i j lt = grind arith
 
-              place : (k + length bs < m) ⊎ (k + length bs ≡ m) → (k + length bs < m) ⊎ (k ≡ m - length bs - length cs + length cs)
-              place (inl lt) = inl lt
-              place (inr e) = inr (omega arith)
+              index : (k + length bs < m) ⊎ (k + length bs ≡ m) → (k + length bs < m) ⊎ (k ≡ m - length bs - length cs + length cs)
+              index (inl lt) = inl lt
+              index (inr e) = inr (omega arith)
 
           zeros : (k : ℕ) → k + length bs < length (take (m + 1) s) → dot_of ops (reverse (ops.one ∷ bs)) (drop k (take (m + 1) s)) ≡ ops.zero
           zeros k lt =
               let below : k + length bs < m + 1 = omega (arith, length-take-le (m + 1) s (omega arith)) in
-              in_prefix (m + 1) k (omega arith) below ∙ at k (places k below)
+              in_prefix (m + 1) k (omega arith) below ∙ at k (indices k below)

@@ -5,7 +5,7 @@ use Rattle.std.proofs.lemmas.Grind.{reverse_onto}
 use Rattle.field_rules.specs.Ops.{Ops, IsRing}
 use Rattle.field_rules.specs.Fields.{dot_of}
 use Rattle.poly_rules.specs.Polynomials.{coefficient, IsMonic}
-use Rattle.poly_rules.specs.Recurrences.{Recurs}
+use Rattle.poly_rules.specs.Recurrences.{IsRecurrence}
 use Rattle.field_laws.proofs.RingFacts.{zero_plus, one_times, same_of_sum}
 use Rattle.recurrence_laws.proofs.Applied.{dot_of-nil}
 
@@ -45,14 +45,14 @@ module _ {A : Type 0} (ops : Ops A) (ring : IsRing ops) where
       ∙ ap (ops.plus (dot_of ops (reverse cs) (drop k s))) (ap (coefficient ops (drop k s)) (length-reverse cs) ∙ get_or-drop k s (length cs) ops.zero)
 
   -- where the recurrence holds, the monic form gives zero
-  pub monic_from_recurs : (cs s : List A) → Recurs ops cs s → (k : ℕ) → k + length cs < length s → dot_of ops (reverse (ops.one ∷ cs)) (drop k s) ≡ ops.zero
+  pub monic_from_recurs : (cs s : List A) → IsRecurrence ops cs s → (k : ℕ) → k + length cs < length s → dot_of ops (reverse (ops.one ∷ cs)) (drop k s) ≡ ops.zero
   monic_from_recurs cs s recurs k lt =
       dot_of-monic cs s k
       ∙ ap (ops.plus (dot_of ops (reverse cs) (drop k s))) (recurs.each k lt)
       ∙ ring.plus_self (dot_of ops (reverse cs) (drop k s))
 
   -- and the other way about
-  pub recurs_from_monic : (cs s : List A) → ((k : ℕ) → k + length cs < length s → dot_of ops (reverse (ops.one ∷ cs)) (drop k s) ≡ ops.zero) → Recurs ops cs s
+  pub recurs_from_monic : (cs s : List A) → ((k : ℕ) → k + length cs < length s → dot_of ops (reverse (ops.one ∷ cs)) (drop k s) ≡ ops.zero) → IsRecurrence ops cs s
   recurs_from_monic cs s zeros = record {
     each = λ k lt. sym (same_of_sum ops ring (dot_of ops (reverse cs) (drop k s)) (coefficient ops s (k + length cs)) (sym (dot_of-monic cs s k) ∙ zeros k lt));
   }

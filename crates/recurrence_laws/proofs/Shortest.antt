@@ -3,7 +3,7 @@ use Rattle.std.proofs.Common.{◌≡◌, ◌≢◌, ◌⊎◌, inl, inr, ℕ, �
 use Rattle.field_rules.specs.Ops.{Ops, IsRing}
 use Rattle.field_rules.specs.Fields.{dot_of}
 use Rattle.poly_rules.specs.Polynomials.{degree}
-use Rattle.poly_rules.specs.Recurrences.{Recurs, IsShortest}
+use Rattle.poly_rules.specs.Recurrences.{IsRecurrence, IsShortest}
 use Rattle.field_laws.proofs.RingFacts.{zero_times}
 use Rattle.recurrence_laws.specs.Solving.{IsSolving}
 use Rattle.recurrence_laws.proofs.Monic.{monic_form, monic_from_recurs, recurs_from_monic}
@@ -28,18 +28,18 @@ module _ {A : Type 0} (ops : Ops A) (ring : IsRing ops) where
       cases : (i j : ℕ) → (i ≤ j) ⊎ (j < i)
       cases i j = grind arith
 
-      by_lengths : (ds : List A) → Recurs ops ds s → (length cs ≤ length ds) ⊎ (length ds < length cs) → length cs ≤ length ds
+      by_lengths : (ds : List A) → IsRecurrence ops ds s → (length cs ≤ length ds) ⊎ (length ds < length cs) → length cs ≤ length ds
       by_lengths ds recurs (inl le) = le
       by_lengths ds recurs (inr shorter) = absurd (apart (sym fails ∙ ap (λ z. ops.times z inverse) held ∙ zero_times ops ring inverse))
         where
-          place : ℕ
-          place = length cs - 1 - length ds
+          index : ℕ
+          index = length cs - 1 - length ds
 
-          fails : ops.times (dot_of ops saved (drop (place + length ds) s)) inverse ≡ ops.one
-          fails = so_far.saved_fails (place + length ds) (omega (arith, same_degree))
+          fails : ops.times (dot_of ops saved (drop (index + length ds) s)) inverse ≡ ops.one
+          fails = so_far.saved_fails (index + length ds) (omega (arith, same_degree))
 
-          held : dot_of ops saved (drop (place + length ds) s) ≡ ops.zero
+          held : dot_of ops saved (drop (index + length ds) s) ≡ ops.zero
           held =
-              holds_on ops ring saved (reverse (ops.one ∷ ds)) s (length ds) place (monic_form ops ring ds)
-              (λ i lt. so_far.saved_holds (place + i) (omega (arith, same_degree)))
-              (λ i lt. monic_from_recurs ops ring ds s recurs (place + i) (omega (arith, same_degree, so_far.room)))
+              holds_on ops ring saved (reverse (ops.one ∷ ds)) s (length ds) index (monic_form ops ring ds)
+              (λ i lt. so_far.saved_holds (index + i) (omega (arith, same_degree)))
+              (λ i lt. monic_from_recurs ops ring ds s recurs (index + i) (omega (arith, same_degree, so_far.room)))

@@ -3,31 +3,31 @@ use Rattle.std.proofs.Common.{◌≡◌, ◌⊎◌, inl, inr, ℕ, ◌+◌, ◌-
 use Rattle.std.proofs.lemmas.List.{drop-drop, get_or_past, get_or-append-add, length-append, length-map, length-replicate}
 use Rattle.field_rules.specs.Ops.{Ops, IsRing}
 use Rattle.field_rules.specs.Fields.{dot_of}
-use Rattle.poly_rules.specs.Polynomials.{coefficient, degree, IsMonic, sum_of, scaled}
+use Rattle.poly_rules.specs.Polynomials.{coefficient, degree, IsMonic, sum_of, scalar_multiple}
 use Rattle.field_laws.proofs.RingFacts.{times_zero}
 use Rattle.poly_laws.proofs.Sums.{coefficient-sum}
 use Rattle.poly_laws.proofs.Division.{length-sum}
 use Rattle.recurrence_laws.specs.Solving.{IsSolving}
-use Rattle.recurrence_laws.proofs.Applied.{dot_of-sum, dot_of-scaled, dot_of-shifts}
+use Rattle.recurrence_laws.proofs.Applied.{dot_of-sum, dot_of-scalar_multiple, dot_of-shifts}
 
 module _ {A : Type 0} (ops : Ops A) (ring : IsRing ops) where
   -- ---- what the sums give
 
-  -- a polynomial, and k times another that stands m places further up
-  dot_of-added : (k : A) (m j : ℕ) (f g s : List A) → dot_of ops (sum_of ops f (replicate m ops.zero ++ scaled ops k g)) (drop j s) ≡ ops.plus (dot_of ops f (drop j s)) (ops.times k (dot_of ops g (drop (j + m) s)))
+  -- a polynomial, and k times another that is multiplied by x ^ m
+  dot_of-added : (k : A) (m j : ℕ) (f g s : List A) → dot_of ops (sum_of ops f (replicate m ops.zero ++ scalar_multiple ops k g)) (drop j s) ≡ ops.plus (dot_of ops f (drop j s)) (ops.times k (dot_of ops g (drop (j + m) s)))
   dot_of-added k m j f g s =
-      dot_of-sum ops ring f (replicate m ops.zero ++ scaled ops k g) (drop j s)
+      dot_of-sum ops ring f (replicate m ops.zero ++ scalar_multiple ops k g) (drop j s)
       ∙ ap (ops.plus (dot_of ops f (drop j s)))
-      (dot_of-shifts ops ring m (scaled ops k g) (drop j s)
-      ∙ dot_of-scaled ops ring k g (drop m (drop j s))
+      (dot_of-shifts ops ring m (scalar_multiple ops k g) (drop j s)
+      ∙ dot_of-scalar_multiple ops ring k g (drop m (drop j s))
       ∙ ap (λ z. ops.times k (dot_of ops g z)) (drop-drop m j s))
 
-  -- a polynomial that is put m places further up, and k times another
-  dot_of-raised : (k : A) (m j : ℕ) (f g s : List A) → dot_of ops (sum_of ops (replicate m ops.zero ++ f) (scaled ops k g)) (drop j s) ≡ ops.plus (dot_of ops f (drop (j + m) s)) (ops.times k (dot_of ops g (drop j s)))
+  -- a polynomial that is multiplied by x ^ m, and k times another
+  dot_of-raised : (k : A) (m j : ℕ) (f g s : List A) → dot_of ops (sum_of ops (replicate m ops.zero ++ f) (scalar_multiple ops k g)) (drop j s) ≡ ops.plus (dot_of ops f (drop (j + m) s)) (ops.times k (dot_of ops g (drop j s)))
   dot_of-raised k m j f g s =
-      dot_of-sum ops ring (replicate m ops.zero ++ f) (scaled ops k g) (drop j s)
-      ∙ ap (λ z. ops.plus z (dot_of ops (scaled ops k g) (drop j s))) (dot_of-shifts ops ring m f (drop j s) ∙ ap (dot_of ops f) (drop-drop m j s))
-      ∙ ap (ops.plus (dot_of ops f (drop (j + m) s))) (dot_of-scaled ops ring k g (drop j s))
+      dot_of-sum ops ring (replicate m ops.zero ++ f) (scalar_multiple ops k g) (drop j s)
+      ∙ ap (λ z. ops.plus z (dot_of ops (scalar_multiple ops k g) (drop j s))) (dot_of-shifts ops ring m f (drop j s) ∙ ap (dot_of ops f) (drop-drop m j s))
+      ∙ ap (ops.plus (dot_of ops f (drop (j + m) s))) (dot_of-scalar_multiple ops ring k g (drop j s))
 
   both_zero : (k a b : A) → a ≡ ops.zero → b ≡ ops.zero → ops.plus a (ops.times k b) ≡ ops.zero
   both_zero k a b zero_a zero_b =
@@ -94,11 +94,11 @@ module _ {A : Type 0} (ops : Ops A) (ring : IsRing ops) where
     where
       at : (k : ℕ) → (k + degree current < n) ⊎ (k + degree current ≡ n) → dot_of ops current (drop k s) ≡ ops.zero
       at k (inl lt) = so_far.holds k lt
-      at k (inr e) = let place : k ≡ n - degree current = omega arith in ap (λ z. dot_of ops current (drop z s)) place ∙ foretold
+      at k (inr e) = let index : k ≡ n - degree current = omega arith in ap (λ z. dot_of ops current (drop z s)) index ∙ foretold
 
   -- an item that isn't, where the recurrence is long enough: a multiple of the saved one mends it
   pub solving_mended : (s current saved : List A) (n : ℕ) (d inverse : A) → IsSolving ops s n current saved inverse → d ≡ dot_of ops current (drop (n - degree current) s) → n - degree current < degree current
-      → IsSolving ops s (n + 1) (sum_of ops current (replicate (degree current - (n - degree current) - 1) ops.zero ++ scaled ops (ops.times d inverse) saved)) saved inverse
+      → IsSolving ops s (n + 1) (sum_of ops current (replicate (degree current - (n - degree current) - 1) ops.zero ++ scalar_multiple ops (ops.times d inverse) saved)) saved inverse
   solving_mended s current saved n d inverse so_far is long = record {
     monic = subst (λ z. IsMonic ops z mended) (sym same_degree) monic;
     holds = λ k lt. at k (meets (k + degree current) n (omega (arith, same_degree)));
@@ -112,13 +112,13 @@ module _ {A : Type 0} (ops : Ops A) (ring : IsRing ops) where
       shift = degree current - (n - degree current) - 1
 
       mended : List A
-      mended = sum_of ops current (replicate shift ops.zero ++ scaled ops (ops.times d inverse) saved)
+      mended = sum_of ops current (replicate shift ops.zero ++ scalar_multiple ops (ops.times d inverse) saved)
 
-      short : length (replicate shift ops.zero ++ scaled ops (ops.times d inverse) saved) ≤ degree current
-      short = omega (arith, length-append (replicate shift ops.zero) (scaled ops (ops.times d inverse) saved), length-replicate shift ops.zero, length-map saved (ops.times (ops.times d inverse)), so_far.room, so_far.some)
+      short : length (replicate shift ops.zero ++ scalar_multiple ops (ops.times d inverse) saved) ≤ degree current
+      short = omega (arith, length-append (replicate shift ops.zero) (scalar_multiple ops (ops.times d inverse) saved), length-replicate shift ops.zero, length-map saved (ops.times (ops.times d inverse)), so_far.room, so_far.some)
 
       monic : IsMonic ops (degree current) mended
-      monic = monic_sum (degree current) current (replicate shift ops.zero ++ scaled ops (ops.times d inverse) saved) so_far.monic short
+      monic = monic_sum (degree current) current (replicate shift ops.zero ++ scalar_multiple ops (ops.times d inverse) saved) so_far.monic short
 
       same_degree : degree mended ≡ degree current
       same_degree = omega (arith, monic.size)
@@ -128,33 +128,33 @@ module _ {A : Type 0} (ops : Ops A) (ring : IsRing ops) where
           dot_of-added (ops.times d inverse) shift k current saved s
           ∙ both_zero (ops.times d inverse) (dot_of ops current (drop k s)) (dot_of ops saved (drop (k + shift) s)) (so_far.holds k lt) (so_far.saved_holds (k + shift) (omega arith))
       at k (inr e) =
-          let place : k ≡ n - degree current = omega arith in
+          let index : k ≡ n - degree current = omega arith in
           dot_of-added (ops.times d inverse) shift k current saved s
-          ∙ ap (λ z. ops.plus z (ops.times (ops.times d inverse) (dot_of ops saved (drop (k + shift) s)))) (ap (λ z. dot_of ops current (drop z s)) place ∙ sym is)
+          ∙ ap (λ z. ops.plus z (ops.times (ops.times d inverse) (dot_of ops saved (drop (k + shift) s)))) (ap (λ z. dot_of ops current (drop z s)) index ∙ sym is)
           ∙ cancelled d (dot_of ops saved (drop (k + shift) s)) inverse (so_far.saved_fails (k + shift) (omega arith))
 
   -- and where it isn't: it is put further up, and what it was is saved
   pub solving_grown : (s current saved : List A) (n : ℕ) (d inverse next : A) → IsSolving ops s n current saved inverse → d ≡ dot_of ops current (drop (n - degree current) s) → degree current ≤ n - degree current
       → ops.times d next ≡ ops.one
-      → IsSolving ops s (n + 1) (sum_of ops (replicate (n - degree current - degree current + 1) ops.zero ++ current) (scaled ops (ops.times d inverse) saved)) current next
+      → IsSolving ops s (n + 1) (sum_of ops (replicate (n - degree current - degree current + 1) ops.zero ++ current) (scalar_multiple ops (ops.times d inverse) saved)) current next
   solving_grown s current saved n d inverse next so_far is short is_next = record {
     monic = subst (λ z. IsMonic ops z grown) (sym new_degree) monic;
     holds = λ k lt. at k (meets (k + 1) (degree current) (omega (arith, new_degree)));
     some = omega (arith, so_far.monic.size);
     room = omega (arith, so_far.room, new_degree);
     saved_holds = λ k lt. so_far.holds k (omega (arith, new_degree));
-    saved_fails = λ k e. let place : k ≡ n - degree current = omega (arith, new_degree) in ap (λ z. ops.times (dot_of ops current (drop z s)) next) place ∙ ap (λ z. ops.times z next) (sym is) ∙ is_next;
+    saved_fails = λ k e. let index : k ≡ n - degree current = omega (arith, new_degree) in ap (λ z. ops.times (dot_of ops current (drop z s)) next) index ∙ ap (λ z. ops.times z next) (sym is) ∙ is_next;
   }
     where
       shift : ℕ
       shift = n - degree current - degree current + 1
 
       grown : List A
-      grown = sum_of ops (replicate shift ops.zero ++ current) (scaled ops (ops.times d inverse) saved)
+      grown = sum_of ops (replicate shift ops.zero ++ current) (scalar_multiple ops (ops.times d inverse) saved)
 
       monic : IsMonic ops (shift + degree current) grown
       monic =
-          monic_sum (shift + degree current) (replicate shift ops.zero ++ current) (scaled ops (ops.times d inverse) saved)
+          monic_sum (shift + degree current) (replicate shift ops.zero ++ current) (scalar_multiple ops (ops.times d inverse) saved)
           (monic_raised shift (degree current) current so_far.monic)
           (omega (arith, length-map saved (ops.times (ops.times d inverse)), so_far.room, so_far.some))
 
@@ -166,7 +166,7 @@ module _ {A : Type 0} (ops : Ops A) (ring : IsRing ops) where
           dot_of-raised (ops.times d inverse) shift k current saved s
           ∙ both_zero (ops.times d inverse) (dot_of ops current (drop (k + shift) s)) (dot_of ops saved (drop k s)) (so_far.holds (k + shift) (omega arith)) (so_far.saved_holds k lt)
       at k (inr e) =
-          let place : k + shift ≡ n - degree current = omega arith in
+          let index : k + shift ≡ n - degree current = omega arith in
           dot_of-raised (ops.times d inverse) shift k current saved s
-          ∙ ap (λ z. ops.plus z (ops.times (ops.times d inverse) (dot_of ops saved (drop k s)))) (ap (λ z. dot_of ops current (drop z s)) place ∙ sym is)
+          ∙ ap (λ z. ops.plus z (ops.times (ops.times d inverse) (dot_of ops saved (drop k s)))) (ap (λ z. dot_of ops current (drop z s)) index ∙ sym is)
           ∙ cancelled d (dot_of ops saved (drop k s)) inverse (so_far.saved_fails k e)

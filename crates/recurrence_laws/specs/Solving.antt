@@ -5,9 +5,9 @@ use Rattle.field_rules.specs.Fields.{dot_of}
 use Rattle.poly_rules.specs.Polynomials.{degree, IsMonic}
 
 -- Of the first n items of s. Recurrences c_1, .., c_L stand in their monic form c_L, .., c_1, 1. The sum of its products
--- with the items from a place on is the discrepancy there, and zero where the recurrence holds. current is one that
+-- with the items from an index on is the discrepancy there, and zero where the recurrence holds. current is one that
 -- holds of the n items. saved is an earlier one, or a multiple of it: where L is the degree of current, it holds at the
--- places below L - 1 and fails at L - 1, within the n items, and inverse is the inverse of its discrepancy there. While
+-- indices below L - 1 and fails at L - 1, within the n items, and inverse is the inverse of its discrepancy there. While
 -- L is 0, nothing has failed, and nothing is said of saved.
 pub record IsSolving {A : Type 0} (ops : Ops A) (s : List A) (n : ℕ) (current saved : List A) (inverse : A) : Type 0 where
   pub monic : IsMonic ops (degree current) current

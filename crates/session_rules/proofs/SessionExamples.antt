@@ -2,14 +2,14 @@
 use Rattle.std.proofs.Common.{◌≡◌, ℕ, List, [], ◌∷◌, ◌++◌, refl, true, false, Some, length, take, drop, lit<, lit≤}
 use Rattle.id_rules.proofs.Samples.{from_digits}
 use Rattle.std.specs.Prelude.{codes}
-use Rattle.wire_rules.specs.Layout.{on_wire}
+use Rattle.wire_rules.specs.Layout.{wire_bytes}
 use Rattle.wire_rules.specs.declared.message.Message.TheVariants as message
 use Rattle.wire_rules.specs.declared.name.Name.TheVariants as name
 use Rattle.wire_rules.specs.declared.phase.Phase.TheVariants as phase
 use Rattle.wire_rules.proofs.Samples.{magic}
 use Rattle.node_rules.specs.declared.end.End.TheVariants as end
 use Rattle.node_rules.proofs.Samples.{new_opener, new_accepter, introduced}
-use Rattle.session_rules.specs.Session.{Session, AreInTime, session_start, takes_pieces, is_done}
+use Rattle.session_rules.specs.Session.{Session, AreInTime, session_start, after_pieces, is_done}
 use Rattle.session_rules.proofs.Samples.{sessioning}
 
 -- a new opener has given its version, of 119 bytes, and a new accepter nothing
@@ -27,22 +27,22 @@ unfolding sessioning
 silent = refl
 
 -- behind the peer's whole handshake it is
-greeted : is_done true 0 (takes_pieces 0 (session_start (new_accepter [])) (on_wire magic (introduced 1) ∷ [])) ≡ true
+greeted : is_done true 0 (after_pieces 0 (session_start (new_accepter [])) (wire_bytes magic (introduced 1) ∷ [])) ≡ true
 unfolding sessioning
 greeted = refl
 
 -- a `verack` at once ends it
-verack_first : (takes_pieces 0 (session_start (new_accepter [])) (from_digits (codes "f9beb4d976657261636b000000000000000000005df6e0e2") ∷ [])).state.ended ≡ Some (end.Handshake name.Verack)
+verack_first : (after_pieces 0 (session_start (new_accepter [])) (from_digits (codes "f9beb4d976657261636b000000000000000000005df6e0e2") ∷ [])).state.ended ≡ Some (end.Handshake name.Verack)
 unfolding sessioning
 verack_first = refl
 
 -- the pieces of an accepter's handshake, cut in the middle, and the session of an opener of one round that takes them: the
 -- round begins with the last byte
 abbrev cut : List (List ℕ)
-cut = take 100 (on_wire magic (introduced 2)) ∷ drop 100 (on_wire magic (introduced 2)) ∷ []
+cut = take 100 (wire_bytes magic (introduced 2)) ∷ drop 100 (wire_bytes magic (introduced 2)) ∷ []
 
 abbrev opened : Session
-opened = takes_pieces 1 (session_start (new_opener [])) cut
+opened = after_pieces 1 (session_start (new_opener [])) cut
 
 begun : opened.begun ≡ 1
 unfolding sessioning
@@ -57,16 +57,16 @@ unfolding sessioning
 not_done = refl
 
 -- it has given its version, its introduction and the request
-gives : opened.given ≡ on_wire magic (introduced 1 ++ message.ReqRecon 0 8192 ∷ [])
+gives : opened.given ≡ wire_bytes magic (introduced 1 ++ message.ReqRecon 0 8192 ∷ [])
 unfolding sessioning
 gives = refl
 
 -- a round without a sketch, and its pong: then it is done
-ended_round : is_done false 1 (takes_pieces 1 (session_start (new_opener [])) (cut ++ on_wire magic (message.Sketch [] ∷ []) ∷ on_wire magic (message.Pong 1 ∷ []) ∷ [])) ≡ true
+ended_round : is_done false 1 (after_pieces 1 (session_start (new_opener [])) (cut ++ wire_bytes magic (message.Sketch [] ∷ []) ∷ wire_bytes magic (message.Pong 1 ∷ []) ∷ [])) ≡ true
 unfolding sessioning
 ended_round = refl
 
 -- what was sent before the first piece: the version, and no more
-in_time : AreInTime 1 (session_start (new_opener [])) (record { bytes = take 100 (on_wire magic (introduced 2)); sent_before = 119 } ∷ [])
+in_time : AreInTime 1 (session_start (new_opener [])) (record { bytes = take 100 (wire_bytes magic (introduced 2)); sent_before = 119 } ∷ [])
 unfolding sessioning
 in_time = (record { sent = refl; unended = refl; undone = refl; least = lit< tt; most = lit≤ tt }, tt)

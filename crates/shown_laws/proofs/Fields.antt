@@ -2,7 +2,7 @@
 use Rattle.std.proofs.Common.{◌≡◌, ℕ, ◌==◌, Bool, true, false, not, List, [], ◌∷◌, ◌++◌, if◌then◌else◌, refl, sym, ap, ◌∙◌}
 use Rattle.std.specs.List.{AllByRecursion, join_with_byte, list_all}
 use Rattle.std.proofs.lemmas.Bool.{ne_eqb}
-use Rattle.wire_rules.specs.ShownReading.{fields_of, in_front}
+use Rattle.wire_rules.specs.ShownReading.{fields_of, with_first_byte}
 use Rattle.wire_laws.proofs.Parts.{both_hold, both_so}
 
 -- no byte of a word is a space
@@ -25,7 +25,7 @@ no-space test none [] h = refl
 no-space test none (b ∷ word) h = let tests = both_hold (test b) (list_all test word) h in both_so (not (b == 32)) (spaceless word) (ap not (another test b 32 tests.0 none)) (no-space test none word tests.1)
 
 -- a byte that is no space stands in the first field
-byte_by : (space : Bool) (b : ℕ) (rest : List ℕ) → not space ≡ true → (if space then [] ∷ fields_of rest else in_front b (fields_of rest)) ≡ in_front b (fields_of rest)
+byte_by : (space : Bool) (b : ℕ) (rest : List ℕ) → not space ≡ true → (if space then [] ∷ fields_of rest else with_first_byte b (fields_of rest)) ≡ with_first_byte b (fields_of rest)
 byte_by true b rest h = absurd (cc)
 byte_by false b rest h = refl
 
@@ -35,7 +35,7 @@ unfolding fields_of
 fields-word [] rest h = refl
 fields-word (b ∷ word) rest h =
     let tests = both_hold (not (b == 32)) (spaceless word) h in
-    byte_by (b == 32) b (word ++ (32 ∷ rest)) tests.0 ∙ ap (in_front b) (fields-word word rest tests.1)
+    byte_by (b == 32) b (word ++ (32 ∷ rest)) tests.0 ∙ ap (with_first_byte b) (fields-word word rest tests.1)
 
 -- the last word
 fields-last : (word : List ℕ) → spaceless word ≡ true → fields_of word ≡ word ∷ []
@@ -43,7 +43,7 @@ unfolding fields_of
 fields-last [] h = refl
 fields-last (b ∷ word) h =
     let tests = both_hold (not (b == 32)) (spaceless word) h in
-    byte_by (b == 32) b word tests.0 ∙ ap (in_front b) (fields-last word tests.1)
+    byte_by (b == 32) b word tests.0 ∙ ap (with_first_byte b) (fields-last word tests.1)
 
 pub fields-joined : (word : List ℕ) (words : List (List ℕ)) → AllByRecursion IsSpaceless (word ∷ words) → fields_of (join_with_byte 32 (word ∷ words)) ≡ word ∷ words
 fields-joined word [] each = fields-last word each.0.none

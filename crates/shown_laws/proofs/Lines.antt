@@ -8,10 +8,10 @@ use Rattle.hex.specs.Hex.{encode_lower}
 use Rattle.line_rules.specs.Digits.{eight_digits}
 use Rattle.line_rules.specs.Numbers.{number_of}
 use Rattle.id_rules.specs.Bytes.{are_bytes}
-use Rattle.wire_rules.specs.Commands.{begins_printable, is_command, is_filled, is_printable, name_at, word_of}
-use Rattle.wire_rules.specs.Limits.{IsMessage, in_range, is_entry, is_message, within_limits}
-use Rattle.wire_rules.specs.Shown.{IsShown, bytes_word, entry_word, flag_word, salt_word, shown, version_words, words_of}
-use Rattle.wire_rules.specs.ShownReading.{bytes_of, checked, each_of, entry_of, fields_of, flag_of, many_said, message_said, read_shown, said, salt_of, short_of, version_said, ◌>>=◌}
+use Rattle.wire_rules.specs.Commands.{has_printable_start, is_command, is_filled, is_printable, name_at, word_of}
+use Rattle.wire_rules.specs.Limits.{IsMessage, is_in_range, is_entry, is_message, is_within_limits}
+use Rattle.wire_rules.specs.Shown.{IsShown, bytes_word, entry_word, flag_word, salt_word, message_text, version_words, words_of}
+use Rattle.wire_rules.specs.ShownReading.{bytes_of, message_if_shown, items_of, entry_of, fields_of, flag_of, message_of_many, message_of_fields, shown_message, message_of_name, salt_of, short_of, version_of_fields, ◌>>=◌}
 use Rattle.wire_rules.specs.declared.limits.TheConstants.{PAYLOAD_LIMIT}
 use Rattle.wire_rules.specs.declared.message.InvEntry.{InvEntry}
 use Rattle.wire_rules.specs.declared.message.Message.{Message}
@@ -29,7 +29,7 @@ record HasWords (m : Message) : Type 0 where
   more : List (List ℕ)
   words : words_of m ≡ first ∷ more
   spaces : AllByRecursion IsSpaceless (first ∷ more)
-  said : message_said (first ∷ more) ≡ Some m
+  said : message_of_fields (first ∷ more) ≡ Some m
 
 -- ---- the command, first
 
@@ -51,8 +51,8 @@ word_spaces name.Ping = refl
 word_spaces name.Pong = refl
 
 -- a word that isn't `other`, and is the name's
-word_said : (n : Name) (fields : List (List ℕ)) → message_said (word_of n ∷ fields) ≡ said n fields
-unfolding word_of message_said
+word_said : (n : Name) (fields : List (List ℕ)) → message_of_fields (word_of n ∷ fields) ≡ message_of_name n fields
+unfolding word_of message_of_fields
 word_said name.Version fields = refl
 word_said name.Verack fields = refl
 word_said name.WtxidRelay fields = refl
@@ -68,14 +68,14 @@ word_said name.Tx fields = refl
 word_said name.Ping fields = refl
 word_said name.Pong fields = refl
 
-named_words : (n : Name) (fields : List (List ℕ)) (m : Message) → words_of m ≡ word_of n ∷ fields → AllByRecursion IsSpaceless fields → said n fields ≡ Some m → HasWords m
+named_words : (n : Name) (fields : List (List ℕ)) (m : Message) → words_of m ≡ word_of n ∷ fields → AllByRecursion IsSpaceless fields → message_of_name n fields ≡ Some m → HasWords m
 named_words n fields m words spaces e =
     record { first = word_of n; more = fields; words = words; spaces = (record { none = word_spaces n }, spaces); said = word_said n fields ∙ e }
 
 -- ---- a version
 
-version_said_back : (v : VersionMsg) → VersionRanges v → AllByRecursion IsSpaceless (version_words v) × (version_said (version_words v) ≡ Some (message.Version v))
-unfolding version_said
+version_said_back : (v : VersionMsg) → VersionRanges v → AllByRecursion IsSpaceless (version_words v) × (version_of_fields (version_words v) ≡ Some (message.Version v))
+unfolding version_of_fields
 version_said_back v ranges =
     let version = signed-reads 31 v.version (lit≤ tt) ranges.version in
     let services = number-reads v.services (ltb-true v.services (2 ^ 64) ranges.services) in
@@ -114,10 +114,10 @@ filled_bytes (x ∷ xs) h = filled_by (is_printable x) x xs refl (filled_bytes x
 command_reads : (c : List ℕ) → is_command c ≡ true → Reads bytes_of (encode_lower c) c
 command_reads [] h = absurd (cc)
 command_reads (b ∷ rest) h =
-    some-bytes-reads b rest (filled_bytes (b ∷ rest) (both_hold ((length (b ∷ rest) == 12) && begins_printable (b ∷ rest)) (is_filled (b ∷ rest)) h).1)
+    some-bytes-reads b rest (filled_bytes (b ∷ rest) (both_hold ((length (b ∷ rest) == 12) && has_printable_start (b ∷ rest)) (is_filled (b ∷ rest)) h).1)
 
 other_words : (command payload : List ℕ) → is_command command ≡ true → are_bytes payload ≡ true → HasWords (message.Other command payload)
-unfolding words_of message_said
+unfolding words_of message_of_fields
 other_words command payload h bytes =
     let first = command_reads command h in
     let second = bytes-reads payload bytes in
@@ -132,15 +132,15 @@ other_words command payload h bytes =
 -- ---- an inventory
 
 inventory_words : (n : Name) (made : List InvEntry → Message) (es : List InvEntry) → words_of (made es) ≡ word_of n ∷ map entry_word es → list_all is_entry es ≡ true
-    → ((fields : List (List ℕ)) → said n fields ≡ many_said entry_of made fields) → HasWords (made es)
+    → ((fields : List (List ℕ)) → message_of_name n fields ≡ message_of_many entry_of made fields) → HasWords (made es)
 inventory_words n made es words h same =
     named_words n (map entry_word es) (made es) words (each-spaces entry_of entry_word is_entry entry-reads es h)
-    (same (map entry_word es) ∙ then_some (each_of entry_of (map entry_word es)) es _ _ (each-said entry_of entry_word is_entry entry-reads es h) refl)
+    (same (map entry_word es) ∙ then_some (items_of entry_of (map entry_word es)) es _ _ (each-said entry_of entry_word is_entry entry-reads es h) refl)
 
 -- ---- all
 
-words_by : (m : Message) → within_limits m ≡ true → in_range m ≡ true → HasWords m
-unfolding within_limits in_range words_of said
+words_by : (m : Message) → is_within_limits m ≡ true → is_in_range m ≡ true → HasWords m
+unfolding is_within_limits is_in_range words_of message_of_name
 words_by (message.Version v) w r = let back = version_said_back v (version_ranges v r) in named_words name.Version (version_words v) (message.Version v) refl back.0 back.1
 words_by message.Verack w r = named_words name.Verack [] message.Verack refl tt refl
 words_by message.WtxidRelay w r = named_words name.WtxidRelay [] message.WtxidRelay refl tt refl
@@ -164,7 +164,7 @@ words_by (message.ReconcilDiff success asks) w r =
     let first = flag-reads success in
     named_words name.ReconcilDiff (flag_word success ∷ map eight_digits asks) (message.ReconcilDiff success asks) refl
     (first.spaces, each-spaces short_of eight_digits (λ n. nat_lt n (2 ^ 32)) short-reads asks r)
-    (then_some (flag_of (flag_word success)) success _ _ first.said (then_some (each_of short_of (map eight_digits asks)) asks _ _ (each-said short_of eight_digits (λ n. nat_lt n (2 ^ 32)) short-reads asks r) refl))
+    (then_some (flag_of (flag_word success)) success _ _ first.said (then_some (items_of short_of (map eight_digits asks)) asks _ _ (each-said short_of eight_digits (λ n. nat_lt n (2 ^ 32)) short-reads asks r) refl))
 words_by (message.Inv es) w r = inventory_words name.Inv message.Inv es refl r (λ fields. refl)
 words_by (message.GetData es) w r = inventory_words name.GetData message.GetData es refl r (λ fields. refl)
 words_by (message.NotFound es) w r = inventory_words name.NotFound message.NotFound es refl r (λ fields. refl)
@@ -182,33 +182,33 @@ words_by (message.Other command payload) w r =
     other_words command payload (both_hold (is_command command) (not (is_some (name_at command))) known.0).0 r
 
 -- the message that a line seems to say is the one that is shown in it
-said_back : (m : Message) → HasWords m → message_said (fields_of (shown m)) ≡ Some m
-said_back m h = ap (λ words. message_said (fields_of (join_with_byte 32 words))) h.words ∙ (ap message_said (fields-joined h.first h.more h.spaces) ∙ h.said)
+said_back : (m : Message) → HasWords m → message_of_fields (fields_of (message_text m)) ≡ Some m
+said_back m h = ap (λ words. message_of_fields (fields_of (join_with_byte 32 words))) h.words ∙ (ap message_of_fields (fields-joined h.first h.more h.spaces) ∙ h.said)
 
-pub read_shown-shown : (m : Message) → IsMessage m → read_shown (shown m) ≡ Some m
-read_shown-shown m sent =
-    then_some (message_said (fields_of (shown m))) m (checked (shown m)) (Some m) (said_back m (words_by m sent.within sent.ranged))
-    (ap (λ t. if t then Some m else None) (both_so (is_message m) (bytes_eq (shown m) (shown m)) (both_so (within_limits m) (in_range m) sent.within sent.ranged) (bytes_eq-self (shown m))))
+pub shown_message-message_text : (m : Message) → IsMessage m → shown_message (message_text m) ≡ Some m
+shown_message-message_text m sent =
+    then_some (message_of_fields (fields_of (message_text m))) m (message_if_shown (message_text m)) (Some m) (said_back m (words_by m sent.within sent.ranged))
+    (ap (λ t. if t then Some m else None) (both_so (is_message m) (bytes_eq (message_text m) (message_text m)) (both_so (is_within_limits m) (is_in_range m) sent.within sent.ranged) (bytes_eq-self (message_text m))))
 
 one_some : (m n : Message) → (let o : Option Message = Some m in o ≡ Some n) → m ≡ n
 one_some m n e = cc
 
 -- so two messages never share a line
-pub shown-injective : (m n : Message) → IsMessage m → IsMessage n → shown m ≡ shown n → m ≡ n
-shown-injective m n sent other e = one_some m n (sym (read_shown-shown m sent) ∙ (ap read_shown e ∙ read_shown-shown n other))
+pub message_text-injective : (m n : Message) → IsMessage m → IsMessage n → message_text m ≡ message_text n → m ≡ n
+message_text-injective m n sent other e = one_some m n (sym (shown_message-message_text m sent) ∙ (ap shown_message e ∙ shown_message-message_text n other))
 
 -- ---- what is read is shown
 
-checked_by : (t : Bool) (line : List ℕ) (m n : Message) → (is_message m && bytes_eq (shown m) line) ≡ t → (if t then Some m else None) ≡ Some n → IsShown line n
+checked_by : (t : Bool) (line : List ℕ) (m n : Message) → (is_message m && bytes_eq (message_text m) line) ≡ t → (if t then Some m else None) ≡ Some n → IsShown line n
 checked_by false line m n h e = absurd (cc)
 checked_by true line m n h e =
-    let tests = both_hold (is_message m) (bytes_eq (shown m) line) h in
-    let sent = both_hold (within_limits m) (in_range m) tests.0 in
-    subst (IsShown line) (one_some m n e) (record { sent = record { within = sent.0; ranged = sent.1 }; text = sym (same_text (shown m) line (sym tests.1)) })
+    let tests = both_hold (is_message m) (bytes_eq (message_text m) line) h in
+    let sent = both_hold (is_within_limits m) (is_in_range m) tests.0 in
+    subst (IsShown line) (one_some m n e) (record { sent = record { within = sent.0; ranged = sent.1 }; text = sym (same_text (message_text m) line (sym tests.1)) })
 
-shown_by : (o : Option Message) (line : List ℕ) (m : Message) → (o >>= checked line) ≡ Some m → IsShown line m
+shown_by : (o : Option Message) (line : List ℕ) (m : Message) → (o >>= message_if_shown line) ≡ Some m → IsShown line m
 shown_by None line m e = absurd (cc)
-shown_by (Some n) line m e = checked_by (is_message n && bytes_eq (shown n) line) line n m refl e
+shown_by (Some n) line m e = checked_by (is_message n && bytes_eq (message_text n) line) line n m refl e
 
-pub read_shown-line : (line : List ℕ) (m : Message) → read_shown line ≡ Some m → IsShown line m
-read_shown-line line m e = shown_by (message_said (fields_of line)) line m e
+pub shown_message-line : (line : List ℕ) (m : Message) → shown_message line ≡ Some m → IsShown line m
+shown_message-line line m e = shown_by (message_of_fields (fields_of line)) line m e

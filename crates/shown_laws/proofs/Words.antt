@@ -18,7 +18,7 @@ use Rattle.line_rules.specs.Numbers.{digits_onto, is_digit, number_of}
 use Rattle.id_rules.specs.Bytes.{are_bytes, are_bytes_of, fits_signed, is_optional_byte}
 use Rattle.wire_rules.specs.Limits.{is_entry}
 use Rattle.wire_rules.specs.Shown.{bytes_word, entry_word, flag_word, relay_word, salt_word}
-use Rattle.wire_rules.specs.ShownReading.{◌>>=◌, bytes_of, decoded, each_of, entry_of, flag_of, is_colon, negated, positive, present, relay_of, salt_of, short_of, signed_of}
+use Rattle.wire_rules.specs.ShownReading.{◌>>=◌, bytes_of, decoded_bytes, items_of, entry_of, flag_of, is_colon, negative_number, positive_number, present_byte, relay_of, salt_of, short_of, signed_of}
 use Rattle.wire_rules.specs.declared.message.InvEntry.{InvEntry}
 use Rattle.wire_laws.proofs.Parts.{all_join, both_hold, both_so, drop_front, take_front}
 use Rattle.wire_laws.proofs.Sound.{byte_small}
@@ -83,8 +83,8 @@ number-reads n h = let number = decimal_number n h in record { spaces = record {
 signed_by : (n : ℕ) (ds : List ℕ) → IsNumber n ds → signed_of ds ≡ Some (pos n)
 signed_by n [] number = absurd (let some = number.some in omega arith)
 signed_by n (b ∷ ds) number =
-    ap (λ t. if t then (number_of ds >>= negated) else positive (number_of (b ∷ ds))) (another is_digit b 45 (both_hold (is_digit b) (list_all is_digit ds) number.digits).0 refl)
-    ∙ ap positive number.said
+    ap (λ t. if t then (number_of ds >>= negative_number) else positive_number (number_of (b ∷ ds))) (another is_digit b 45 (both_hold (is_digit b) (list_all is_digit ds) number.digits).0 refl)
+    ∙ ap positive_number number.said
 
 -- a number of n bits and a sign is one of 64 bits
 low_bits : (n k : ℕ) → n ≤ 63 → nat_lt k (2 ^ n) ≡ true → suc k < 2 ^ 64
@@ -96,18 +96,18 @@ signed-reads n (pos k) h fits =
     record { spaces = (number-reads k low).spaces; said = signed_by k (decimal k) (decimal_number k low) }
 signed-reads n (negsuc k) h fits =
     let number = number-reads (suc k) (low_bits n k h fits) in
-    record { spaces = record { none = number.spaces.none }; said = ap (λ o. o >>= negated) number.said }
+    record { spaces = record { none = number.spaces.none }; said = ap (λ o. o >>= negative_number) number.said }
 
 -- ---- bytes
 
 is_bytes : (xs : List ℕ) → are_bytes xs ≡ true → IsBytes xs
 is_bytes xs h i = small_byte xs i h
 
-pub hex-reads : (xs : List ℕ) → are_bytes xs ≡ true → Reads (λ word. decoded (decode_of word)) (encode_lower xs) xs
+pub hex-reads : (xs : List ℕ) → are_bytes xs ≡ true → Reads (λ word. decoded_bytes (decode_of word)) (encode_lower xs) xs
 hex-reads xs h =
     let back = decode_of-encode_lower xs (is_bytes xs h) in
     let ok = decode_of-ok (encode_lower xs) xs back in
-    record { spaces = record { none = no-space is_hex_digit refl (encode_lower xs) (list_all-from_AllPass is_hex_digit (encode_lower xs) ok.1) }; said = ap decoded back }
+    record { spaces = record { none = no-space is_hex_digit refl (encode_lower xs) (list_all-from_AllPass is_hex_digit (encode_lower xs) ok.1) }; said = ap decoded_bytes back }
 
 -- digits of bytes are no `-`
 no_dash : (b : ℕ) (xs : List ℕ) → bytes_eq (encode_lower (b ∷ xs)) (codes "-") ≡ false
@@ -124,7 +124,7 @@ pub some-bytes-reads : (b : ℕ) (xs : List ℕ) → are_bytes (b ∷ xs) ≡ tr
 some-bytes-reads b xs h =
     let hex = hex-reads (b ∷ xs) h in
     let word = encode_lower (b ∷ xs) in
-    record { spaces = hex.spaces; said = ap (λ t. if t then Some [] else decoded (decode_of word)) (no_dash b xs) ∙ hex.said }
+    record { spaces = hex.spaces; said = ap (λ t. if t then Some [] else decoded_bytes (decode_of word)) (no_dash b xs) ∙ hex.said }
 
 pub bytes-reads : (xs : List ℕ) → are_bytes xs ≡ true → Reads bytes_of (bytes_word xs) xs
 bytes-reads [] h = record { spaces = record { none = refl }; said = refl }
@@ -139,12 +139,12 @@ high_bytes (suc k) n = both_so (nat_lt (byte_at k n) (2 ^ 8)) (are_bytes (bytes_
 pub short-reads : (n : ℕ) → nat_lt n (2 ^ 32) ≡ true → Reads short_of (eight_digits n) n
 short-reads n h =
     let hex = hex-reads (to_be_bytes w32 n) (high_bytes 4 n) in
-    record { spaces = hex.spaces; said = then_some (decoded (decode_of (eight_digits n))) (to_be_bytes w32 n) (λ bytes. Some (from_be_bytes w32 bytes)) (Some n) hex.said (ap (λ k. Some k) (from_be_bytes-to_be_bytes_4 n (ltb-true n (2 ^ 32) h))) }
+    record { spaces = hex.spaces; said = then_some (decoded_bytes (decode_of (eight_digits n))) (to_be_bytes w32 n) (λ bytes. Some (from_be_bytes w32 bytes)) (Some n) hex.said (ap (λ k. Some k) (from_be_bytes-to_be_bytes_4 n (ltb-true n (2 ^ 32) h))) }
 
 pub salt-reads : (n : ℕ) → n < 2 ^ 64 → Reads salt_of (salt_word n) n
 salt-reads n h =
     let hex = hex-reads (to_be_bytes w64 n) (high_bytes 8 n) in
-    record { spaces = hex.spaces; said = then_some (decoded (decode_of (salt_word n))) (to_be_bytes w64 n) (λ bytes. Some (from_be_bytes w64 bytes)) (Some n) hex.said (ap (λ k. Some k) (from_be_bytes-to_be_bytes_8 n h)) }
+    record { spaces = hex.spaces; said = then_some (decoded_bytes (decode_of (salt_word n))) (to_be_bytes w64 n) (λ bytes. Some (from_be_bytes w64 bytes)) (Some n) hex.said (ap (λ k. Some k) (from_be_bytes-to_be_bytes_8 n h)) }
 
 -- ---- other fields
 
@@ -165,7 +165,7 @@ relay-reads (Some b) h =
     let reads = number-reads b low in
     record {
       spaces = reads.spaces;
-      said = ap (λ t. if t then Some None else present (number_of (decimal b))) (no_word (decimal b) 110 (codes "one") number.some number.digits refl) ∙ ap present reads.said;
+      said = ap (λ t. if t then Some None else present_byte (number_of (decimal b))) (no_word (decimal b) 110 (codes "one") number.some number.digits refl) ∙ ap present_byte reads.said;
     }
 
 -- no digit is a colon
@@ -205,7 +205,7 @@ entry-reads e h =
       spaces = record { none = all_join (λ b. not (b == 32)) (decimal e.kind) (58 ∷ encode_lower e.id.0) kind.spaces.none id.spaces.none };
       said =
           then_some (number_of (before_first is_colon word)) e.kind _ _ (ap number_of (before_colon (decimal e.kind) (encode_lower e.id.0) number.digits) ∙ kind.said)
-          (then_some (decoded (decode_of (after_first is_colon word))) e.id.0 _ _ (ap (λ xs. decoded (decode_of xs)) (after_colon (decimal e.kind) (encode_lower e.id.0) number.digits) ∙ id.said) refl);
+          (then_some (decoded_bytes (decode_of (after_first is_colon word))) e.id.0 _ _ (ap (λ xs. decoded_bytes (decode_of xs)) (after_colon (decimal e.kind) (encode_lower e.id.0) number.digits) ∙ id.said) refl);
     })
 
 -- ---- any number of like fields
@@ -215,9 +215,9 @@ module _ {A : Type 0} (item : List ℕ → Option A) (spell : A → List ℕ) (t
   each-spaces [] h = tt
   each-spaces (x ∷ xs) h = let tests = both_hold (test x) (list_all test xs) h in ((reads x tests.0).spaces, each-spaces xs tests.1)
 
-  pub each-said : (xs : List A) → list_all test xs ≡ true → each_of item (map spell xs) ≡ Some xs
-  unfolding each_of
+  pub each-said : (xs : List A) → list_all test xs ≡ true → items_of item (map spell xs) ≡ Some xs
+  unfolding items_of
   each-said [] h = refl
   each-said (x ∷ xs) h =
       let tests = both_hold (test x) (list_all test xs) h in
-      then_some (item (spell x)) x _ _ (reads x tests.0).said (then_some (each_of item (map spell xs)) xs _ _ (each-said xs tests.1) refl)
+      then_some (item (spell x)) x _ _ (reads x tests.0).said (then_some (items_of item (map spell xs)) xs _ _ (each-said xs tests.1) refl)

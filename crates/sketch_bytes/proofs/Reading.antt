@@ -13,7 +13,7 @@ use Rattle.hex.proofs.HexLemmas.{decode_of-err, decode_of-encode_lower, decode_o
 use Rattle.sketch_rules.specs.Sketches.{IsCapacity, bytes_of, digits_of, sums_in}
 use Rattle.sketch_rules.specs.declared.limits.TheConstants.{MAX_SKETCH_BYTES}
 use Rattle.sketch_laws.proofs.Bytes.{sums_in-bytes_of, length-bytes_of, length-sums_in}
-use Rattle.sketch_bytes.specs.Reading.{Gives, read_bytes, read_line, read_digits, in_a_line}
+use Rattle.sketch_bytes.specs.Reading.{IsOutcome, sums_of_bytes, sums_of_line, sums_of_digits, line_result}
 use Rattle.sketch_bytes.specs.declared.fault.BytesFault.{BytesFault}
 use Rattle.sketch_bytes.specs.declared.fault.BytesFault.TheVariants as bytes_fault
 use Rattle.sketch_bytes.specs.declared.fault.LineFault.{LineFault}
@@ -21,21 +21,21 @@ use Rattle.sketch_bytes.specs.declared.fault.LineFault.TheVariants as line_fault
 
 -- ---- bytes
 
-pub read-ragged : (bytes : List ℕ) → ¬ (length bytes % 4 ≡ 0) → read_bytes bytes ≡ Err (bytes_fault.RaggedLength (length bytes))
+pub read-ragged : (bytes : List ℕ) → ¬ (length bytes % 4 ≡ 0) → sums_of_bytes bytes ≡ Err (bytes_fault.RaggedLength (length bytes))
 read-ragged bytes ragged =
     let some : ¬ (length bytes ≡ 0) = λ e. ragged (ap (λ n. n % 4) e) in
     rw (ne_eqb (length bytes) 0 some, ne_eqb (length bytes % 4) 0 ragged) refl
 
-pub read-wide : (bytes : List ℕ) → length bytes % 4 ≡ 0 → MAX_SKETCH_BYTES < length bytes → read_bytes bytes ≡ Err (bytes_fault.TooWide (length bytes))
+pub read-wide : (bytes : List ℕ) → length bytes % 4 ≡ 0 → MAX_SKETCH_BYTES < length bytes → sums_of_bytes bytes ≡ Err (bytes_fault.TooWide (length bytes))
 read-wide bytes whole wide =
     let some : ¬ (length bytes ≡ 0) = λ e. absurd (omega arith) in
     rw (ne_eqb (length bytes) 0 some, eq-eqb (length bytes % 4) 0 whole, lt-ltb MAX_SKETCH_BYTES (length bytes) wide) refl
 
-pub read-sums : (bytes : List ℕ) → ¬ (length bytes ≡ 0) → length bytes % 4 ≡ 0 → length bytes ≤ MAX_SKETCH_BYTES → read_bytes bytes ≡ Ok (sums_in bytes)
+pub read-sums : (bytes : List ℕ) → ¬ (length bytes ≡ 0) → length bytes % 4 ≡ 0 → length bytes ≤ MAX_SKETCH_BYTES → sums_of_bytes bytes ≡ Ok (sums_in bytes)
 read-sums bytes some whole fits = rw (ne_eqb (length bytes) 0 some, eq-eqb (length bytes % 4) 0 whole, le-ltb MAX_SKETCH_BYTES (length bytes) fits) refl
 
 -- the bytes of a sketch are read as its sums
-pub read-bytes_of : (sums : List ℕ) → IsCapacity (length sums) → All (λ s. s < 2 ^ 32) sums → read_bytes (bytes_of sums) ≡ Ok sums
+pub read-bytes_of : (sums : List ℕ) → IsCapacity (length sums) → All (λ s. s < 2 ^ 32) sums → sums_of_bytes (bytes_of sums) ≡ Ok sums
 read-bytes_of sums capacity small =
     let long = length-bytes_of sums in
     let low = capacity.0 in
@@ -90,41 +90,41 @@ IsBytes-bytes_of (s ∷ rest) (suc (suc (suc (suc i)))) = IsBytes-bytes_of rest 
 -- ---- lines
 
 -- the line of a sketch, in digits of one case, is read as its sums
-pub read-line_of : (line sums : List ℕ) → IsCapacity (length sums) → All (λ s. s < 2 ^ 32) sums → (line ≡ digits_of sums) ⊎ (line ≡ encode_upper (bytes_of sums)) → read_line line ≡ Ok sums
-read-line_of line sums capacity small spelled = ap read_digits (back spelled) ∙ ap in_a_line (read-bytes_of sums capacity small)
+pub read-line_of : (line sums : List ℕ) → IsCapacity (length sums) → All (λ s. s < 2 ^ 32) sums → (line ≡ digits_of sums) ⊎ (line ≡ encode_upper (bytes_of sums)) → sums_of_line line ≡ Ok sums
+read-line_of line sums capacity small spelled = ap sums_of_digits (back spelled) ∙ ap line_result (read-bytes_of sums capacity small)
   where
     back : (line ≡ digits_of sums) ⊎ (line ≡ encode_upper (bytes_of sums)) → decode_of line ≡ Ok (bytes_of sums)
     back (inl e) = ap decode_of e ∙ decode_of-encode_lower (bytes_of sums) (IsBytes-bytes_of sums)
     back (inr e) = ap decode_of e ∙ decode_of-encode_upper (bytes_of sums) (IsBytes-bytes_of sums)
 
--- the place of a bad digit
-abbrev place_of : Result (List ℕ) LineFault → ℕ
-place_of (Err (line_fault.BadDigit place)) = place
-place_of _ = 0
+-- the offset of a bad digit
+abbrev offset_of : Result (List ℕ) LineFault → ℕ
+offset_of (Err (line_fault.BadDigit offset)) = offset
+offset_of _ = 0
 
 -- the bytes of a line have no bad digit
-no_bad_digit : (r : Result (List ℕ) BytesFault) (place : ℕ) → in_a_line r ≡ Err (line_fault.BadDigit place) → ⊥
-no_bad_digit (Ok sums) place e = cc e
-no_bad_digit (Err fault) place e = cc e
+no_bad_digit : (r : Result (List ℕ) BytesFault) (offset : ℕ) → line_result r ≡ Err (line_fault.BadDigit offset) → ⊥
+no_bad_digit (Ok sums) offset e = cc e
+no_bad_digit (Err fault) offset e = cc e
 
 -- a line that is refused for a bad digit has its first one there
-pub read-bad_digit : (line : List ℕ) (place : ℕ) → read_line line ≡ Err (line_fault.BadDigit place)
-    → (place < length line) × (is_hex_digit (slice_index line place) ≡ false) × AllPass is_hex_digit (take place line)
-read-bad_digit line place e = at (decode_of line) refl e
+pub read-bad_digit : (line : List ℕ) (offset : ℕ) → sums_of_line line ≡ Err (line_fault.BadDigit offset)
+    → (offset < length line) × (is_hex_digit (slice_index line offset) ≡ false) × AllPass is_hex_digit (take offset line)
+read-bad_digit line offset e = at (decode_of line) refl e
   where
-    first : (refused : FromHexError) → read_digits (Err refused) ≡ Err (line_fault.BadDigit place)
+    first : (refused : FromHexError) → sums_of_digits (Err refused) ≡ Err (line_fault.BadDigit offset)
         → ((length line % 2 ≡ 1) × (refused ≡ hex_error.OddLength))
         ⊎ ((k : ℕ) × (refused ≡ hex_error.InvalidHexCharacter (slice_index line k) (0 + k)) × (k < length line) × (is_hex_digit (slice_index line k) ≡ false) × AllPass is_hex_digit (take k line))
-        → (place < length line) × (is_hex_digit (slice_index line place) ≡ false) × AllPass is_hex_digit (take place line)
-    first refused e (inl odd) = cc (sym (ap (λ x. read_digits (Err x)) odd.1) ∙ e)
+        → (offset < length line) × (is_hex_digit (slice_index line offset) ≡ false) × AllPass is_hex_digit (take offset line)
+    first refused e (inl odd) = cc (sym (ap (λ x. sums_of_digits (Err x)) odd.1) ∙ e)
     first refused e (inr r) =
-        let there : 0 + r.0 ≡ place = ap place_of (sym (ap (λ x. read_digits (Err x)) r.1) ∙ e) in
-        let same : place ≡ r.0 = omega arith in
+        let there : 0 + r.0 ≡ offset = ap offset_of (sym (ap (λ x. sums_of_digits (Err x)) r.1) ∙ e) in
+        let same : offset ≡ r.0 = omega arith in
         rw same (r.2, r.3, r.4)
 
-    at : (r : Result (List ℕ) FromHexError) → decode_of line ≡ r → read_digits r ≡ Err (line_fault.BadDigit place)
-        → (place < length line) × (is_hex_digit (slice_index line place) ≡ false) × AllPass is_hex_digit (take place line)
-    at (Ok bytes) d e = absurd (no_bad_digit (read_bytes bytes) place e)
+    at : (r : Result (List ℕ) FromHexError) → decode_of line ≡ r → sums_of_digits r ≡ Err (line_fault.BadDigit offset)
+        → (offset < length line) × (is_hex_digit (slice_index line offset) ≡ false) × AllPass is_hex_digit (take offset line)
+    at (Ok bytes) d e = absurd (no_bad_digit (sums_of_bytes bytes) offset e)
     at (Err refused) d e = first refused e (decode_of-err line refused d)
 
 -- ---- the loop that takes sums
@@ -152,8 +152,8 @@ module _ {A : Type 0} (f : A → ℕ) where
 -- ---- what a call gives
 
 -- of a call that gives what was read, where that is sums
-pub gives_sums : {S E : Type 0} (view : S → List ℕ) (want : E) (read : Result (List ℕ) E) (sums : List ℕ) (result : Result S E) → read ≡ Ok sums → Gives view want read result → Gives view want (Ok sums) result
-gives_sums view want read sums result e h = subst (λ r. Gives view want r result) e h
+pub gives_sums : {S E : Type 0} (view : S → List ℕ) (want : E) (read : Result (List ℕ) E) (sums : List ℕ) (result : Result S E) → read ≡ Ok sums → IsOutcome view want read result → IsOutcome view want (Ok sums) result
+gives_sums view want read sums result e h = subst (λ r. IsOutcome view want r result) e h
 
 -- the fault of a result
 abbrev fault_of : {S : Type 0} → Result S LineFault → LineFault
@@ -161,8 +161,8 @@ fault_of (Ok s) = line_fault.OddDigits
 fault_of (Err fault) = fault
 
 -- of a call that gives what a line is read as, where it answers a bad digit
-pub gives_bad_digit : {S : Type 0} (view : S → List ℕ) (line : List ℕ) (result : Result S LineFault) (place : ℕ) → Gives view (line_fault.Bytes bytes_fault.OutOfMemory) (read_line line) result → result ≡ Err (line_fault.BadDigit place)
-    → (place < length line) × (is_hex_digit (slice_index line place) ≡ false) × AllPass is_hex_digit (take place line)
-gives_bad_digit view line (Ok s) place h is = cc is
-gives_bad_digit view line (Err fault) place (inl want) is = cc (want, is)
-gives_bad_digit view line (Err fault) place (inr read) is = read-bad_digit line place (read ∙ ap Err (ap fault_of is))
+pub gives_bad_digit : {S : Type 0} (view : S → List ℕ) (line : List ℕ) (result : Result S LineFault) (offset : ℕ) → IsOutcome view (line_fault.Bytes bytes_fault.OutOfMemory) (sums_of_line line) result → result ≡ Err (line_fault.BadDigit offset)
+    → (offset < length line) × (is_hex_digit (slice_index line offset) ≡ false) × AllPass is_hex_digit (take offset line)
+gives_bad_digit view line (Ok s) offset h is = cc is
+gives_bad_digit view line (Err fault) offset (inl want) is = cc (want, is)
+gives_bad_digit view line (Err fault) offset (inr read) is = read-bad_digit line offset (read ∙ ap Err (ap fault_of is))

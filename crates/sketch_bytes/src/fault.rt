@@ -46,7 +46,7 @@ impl<T: Drop> From<AllocFailed<T>> for BytesFault {
 pub enum LineFault {
     /// A line of an odd number of digits.
     OddDigits,
-    /// The first byte that is no hexadecimal digit stands at this place, from 0 on.
+    /// The first byte that is no hexadecimal digit stands at this offset, from 0 on.
     BadDigit(u64),
     /// The bytes that the digits spell are no sketch, or memory ran out.
     Bytes(BytesFault),

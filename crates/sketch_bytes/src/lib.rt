@@ -5,7 +5,7 @@ ghost use Rattle.std.specs.Prelude.{◌≡◌, ◌⊎◌, ℕ, ◌%◌, ◌^◌,
 ghost use Rattle.std.specs.List.{All, AllPass};
 ghost use Rattle.hex.specs.Hex.{encode_upper, is_hex_digit};
 ghost use Rattle.sketch_rules.specs.Sketches.{IsCapacity, bytes_of, digits_of, sums_in};
-ghost use Rattle.sketch_bytes.specs.Reading.{Gives, read_bytes, read_line};
+ghost use Rattle.sketch_bytes.specs.Reading.{IsOutcome, sums_of_bytes, sums_of_line};
 ghost use Rattle.sketch_bytes.specs.declared.fault.BytesFault.TheVariants as bytes_fault;
 ghost use Rattle.sketch_bytes.specs.declared.fault.LineFault.TheVariants as line_fault;
 
@@ -46,12 +46,12 @@ pub fn to_line<F: Field>(alloc: Global, sketch: &Sketch<F>) -> Result<Bytes, Out
 /// The sketch whose sums the bytes are, 4 bytes for each, the lowest first.
 pub fn from_bytes<F: Field>(alloc: Global, bytes: &[u8]) -> Result<Sketch<F>, BytesFault>
     requires { F.BITS ≡ 32 }
-    ensures read { Gives (map F.bits_of) bytes_fault.OutOfMemory (read_bytes bytes.now) result }
-    ensures refused { IfErr (read_bytes bytes.now) (λ fault. result ≡ Err fault) }
+    ensures read { IsOutcome (map F.bits_of) bytes_fault.OutOfMemory (sums_of_bytes bytes.now) result }
+    ensures refused { IfErr (sums_of_bytes bytes.now) (λ fault. result ≡ Err fault) }
     ensures sums { IfOk result (λ s. map F.bits_of s ≡ sums_in bytes.now) }
     ensures spelled { IfOk result (λ s. bytes_of (map F.bits_of s) ≡ bytes.now) }
     ensures accepted { (sums : List ℕ) → IsCapacity (length sums) → All (λ s. s < 2 ^ 32) sums → bytes.now ≡ bytes_of sums
-        → Gives (map F.bits_of) bytes_fault.OutOfMemory (Ok sums) result }
+        → IsOutcome (map F.bits_of) bytes_fault.OutOfMemory (Ok sums) result }
 {
     if bytes.is_empty() {
         return Err(BytesFault::EmptySketch);
@@ -69,13 +69,13 @@ pub fn from_bytes<F: Field>(alloc: Global, bytes: &[u8]) -> Result<Sketch<F>, By
 /// The sketch of a line of text, which has the digits of its bytes in either case, two for each byte, and no line end.
 pub fn from_line<F: Field>(alloc: Global, line: &[u8]) -> Result<Sketch<F>, LineFault>
     requires { F.BITS ≡ 32 }
-    ensures read { Gives (map F.bits_of) (line_fault.Bytes bytes_fault.OutOfMemory) (read_line line.now) result }
+    ensures read { IsOutcome (map F.bits_of) (line_fault.Bytes bytes_fault.OutOfMemory) (sums_of_line line.now) result }
     ensures odd { length line.now % 2 ≡ 1 → result ≡ Err line_fault.OddDigits }
-    ensures bad_digit { (place : ℕ) → result ≡ Err (line_fault.BadDigit place)
-        → (place < length line.now) × (is_hex_digit (slice_index line.now place) ≡ false) × AllPass is_hex_digit (take place line.now) }
+    ensures bad_digit { (offset : ℕ) → result ≡ Err (line_fault.BadDigit offset)
+        → (offset < length line.now) × (is_hex_digit (slice_index line.now offset) ≡ false) × AllPass is_hex_digit (take offset line.now) }
     ensures accepted { (sums : List ℕ) → IsCapacity (length sums) → All (λ s. s < 2 ^ 32) sums
         → (line.now ≡ digits_of sums) ⊎ (line.now ≡ encode_upper (bytes_of sums))
-        → Gives (map F.bits_of) (line_fault.Bytes bytes_fault.OutOfMemory) (Ok sums) result }
+        → IsOutcome (map F.bits_of) (line_fault.Bytes bytes_fault.OutOfMemory) (Ok sums) result }
 {
     let bytes = hex::decode(alloc, line)?;
     Ok(from_bytes(alloc, bytes.as_slice())?)

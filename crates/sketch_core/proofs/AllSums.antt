@@ -30,7 +30,7 @@ module _ {A : Type 0} (ops : Ops A) (xs s : List A) (i : ℕ) (x half : A) (all 
       get_or-append (s ++ x ∷ []) (ops.times half half ∷ []) ops.zero j (omega (arith, with_x))
       ∙ get_or-append s (x ∷ []) ops.zero j (omega (arith, size))
 
-  -- the sum stands at place 2 i
+  -- the sum stands at index 2 i
   sum_at : get_or longer (2 * i) ops.zero ≡ get_or (take (i + 1) xs) i ops.zero
   sum_at =
       get_or-append (s ++ x ∷ []) (ops.times half half ∷ []) ops.zero (2 * i) (omega (arith, with_x))
@@ -40,13 +40,13 @@ module _ {A : Type 0} (ops : Ops A) (xs s : List A) (i : ℕ) (x half : A) (all 
       ∙ get_or_default xs i x ops.zero inside
       ∙ sym (get_or-take (i + 1) xs i ops.zero (omega arith))
 
-  -- the half at place i
+  -- the half at index i
   half_at : get_or longer i ops.zero ≡ half
   half_at =
       get_or-append (s ++ x ∷ []) (ops.times half half ∷ []) ops.zero i (omega (arith, with_x))
       ∙ sym (half_is ∙ get_or_default (s ++ x ∷ []) i half ops.zero (omega (arith, with_x)))
 
-  -- and its square at place 2 i + 1
+  -- and its square at index 2 i + 1
   square_at : get_or longer (2 * i + 1) ops.zero ≡ ops.times (get_or longer i ops.zero) (get_or longer i ops.zero)
   square_at =
       ap (λ j. get_or longer j ops.zero) (sym with_x)

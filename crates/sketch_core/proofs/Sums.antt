@@ -2,12 +2,12 @@
 use Rattle.std.proofs.Common.{◌≡◌, ℕ, zero, suc, ◌+◌, ◌*◌, List, [], ◌∷◌, ◌++◌, ◌<◌, length, get_or, take, replicate, refl, sym, ◌∙◌, ap}
 use Rattle.std.proofs.lemmas.List.{take_more}
 use Rattle.field_rules.specs.Ops.{Ops, IsRing, power, with_odd_powers}
-use Rattle.sketch_rules.specs.PowerSums.{power_sum, sums_from}
+use Rattle.sketch_rules.specs.PowerSums.{power_sum, odd_power_sums}
 
 module _ {A : Type 0} (ops : Ops A) where
   -- the sums of no element are zeros
-  pub sums_of_none : (i n : ℕ) → sums_from ops [] i n ≡ replicate n ops.zero
-  unfolding sums_from power_sum
+  pub sums_of_none : (i n : ℕ) → odd_power_sums ops [] i n ≡ replicate n ops.zero
+  unfolding odd_power_sums power_sum
   sums_of_none i zero = refl
   sums_of_none i (suc n) = ap (λ rest. ops.zero ∷ rest) (sums_of_none (i + 1) n)
 
@@ -19,15 +19,15 @@ module _ {A : Type 0} (ops : Ops A) where
       ring.plus_assoc (power ops d k) (power_sum ops k es) (power ops e k) ∙ ap (ops.plus (power ops d k)) (power_sum-more ring k es e)
 
   -- the sums of a list with an element at its end: those of the list, with the odd powers of the element
-  pub sums_from-more : IsRing ops → (es : List A) (e : A) (i n : ℕ) → with_odd_powers ops e i (sums_from ops es i n) ≡ sums_from ops (es ++ e ∷ []) i n
-  unfolding sums_from with_odd_powers
-  sums_from-more ring es e i zero = refl
-  sums_from-more ring es e i (suc n) =
-      rw (power_sum-more ring (2 * i + 1) es e, sums_from-more ring es e (i + 1) n) refl
+  pub odd_power_sums-more : IsRing ops → (es : List A) (e : A) (i n : ℕ) → with_odd_powers ops e i (odd_power_sums ops es i n) ≡ odd_power_sums ops (es ++ e ∷ []) i n
+  unfolding odd_power_sums with_odd_powers
+  odd_power_sums-more ring es e i zero = refl
+  odd_power_sums-more ring es e i (suc n) =
+      rw (power_sum-more ring (2 * i + 1) es e, odd_power_sums-more ring es e (i + 1) n) refl
 
-  -- the element at place i taken in
-  pub sums_from-take : IsRing ops → (es : List A) (e : A) (i n : ℕ) → i < length es → e ≡ get_or es i e
-      → with_odd_powers ops e 0 (sums_from ops (take i es) 0 n) ≡ sums_from ops (take (i + 1) es) 0 n
-  sums_from-take ring es e i n lt is =
+  -- the element at index i taken in
+  pub odd_power_sums-take : IsRing ops → (es : List A) (e : A) (i n : ℕ) → i < length es → e ≡ get_or es i e
+      → with_odd_powers ops e 0 (odd_power_sums ops (take i es) 0 n) ≡ odd_power_sums ops (take (i + 1) es) 0 n
+  odd_power_sums-take ring es e i n lt is =
       let next : take (i + 1) es ≡ take i es ++ e ∷ [] = take_more es i e lt ∙ ap (λ x. take i es ++ x ∷ []) (sym is) in
-      sums_from-more ring (take i es) e 0 n ∙ ap (λ xs. sums_from ops xs 0 n) (sym next)
+      odd_power_sums-more ring (take i es) e 0 n ∙ ap (λ xs. odd_power_sums ops xs 0 n) (sym next)

@@ -4,9 +4,9 @@ ghost use Rattle.std.specs.Prelude.{◌≡◌, ◌≢◌, ℕ, ◌+◌, ◌-◌,
 ghost use Rattle.std.specs.List.{All};
 ghost use Rattle.field_rules.specs.Ops.{with_odd_powers};
 ghost use Rattle.field_rules.specs.Lists.{AreDistinct, sums_of_both};
-ghost use Rattle.sketch_rules.specs.PowerSums.{IsAllSums, every_sum, sketch_by, sums_from};
+ghost use Rattle.sketch_rules.specs.PowerSums.{IsAllSums, power_sums, sketch_by, odd_power_sums};
 ghost use Rattle.sketch_rules.specs.Sets.{difference};
-ghost use Rattle.sketch_rules.specs.Sketches.{IsCapacity, merged, sketch_at};
+ghost use Rattle.sketch_rules.specs.Sketches.{IsCapacity, sketch_sum, sketch_at};
 ghost use Rattle.sketch_rules.specs.declared.limits.TheConstants.{MAX_CAPACITY};
 ghost use Rattle.sketch_core.specs.Refusals.{IsRefusal};
 ghost use Rattle.sketch_core.specs.declared.fault.SketchFault.TheVariants.{CapacityOutOfRange};
@@ -87,7 +87,7 @@ impl<F: Field> Sketch<F> {
     pub fn merge_into(&mut self, other: &Sketch<F>)
         requires { length other.now ≡ length self.old }
         ensures sums { self.new ≡ sums_of_both F.ops self.old other.now }
-        ensures numbers { map F.bits_of self.new ≡ merged (map F.bits_of self.old) (map F.bits_of other.now) }
+        ensures numbers { map F.bits_of self.new ≡ sketch_sum (map F.bits_of self.old) (map F.bits_of other.now) }
         ensures difference { (xs ys : List ℕ) → AreDistinct xs → AreDistinct ys
             → map F.bits_of self.old ≡ sketch_at F.BITS xs (length self.old)
             → map F.bits_of other.now ≡ sketch_at F.BITS ys (length self.old)
@@ -108,13 +108,13 @@ impl<F: Field> Sketch<F> {
         Ok(Sketch { sums })
     }
 
-    /// The sums at the places from `from` on and below `to`: what a sketch of capacity `from` lacks to be one of
+    /// The sums at the indices from `from` on and below `to`: what a sketch of capacity `from` lacks to be one of
     /// capacity `to`.
     pub fn extension(&self, alloc: Global, from: usize, to: usize) -> Result<Vec<F>, OutOfMemory>
         requires { (from < to) × (to ≤ length self.now) }
         ensures ok { IfOk result (λ v. v.items ≡ take (to - from) (drop from self.now)) }
         ensures set { (es : List F) → self.now ≡ sketch_by F.ops es (length self.now)
-            → IfOk result (λ v. v.items ≡ sums_from F.ops es from (to - from)) }
+            → IfOk result (λ v. v.items ≡ odd_power_sums F.ops es from (to - from)) }
     {
         Ok(Vec::from_slice(alloc, &self.sums.as_slice()[from..to])?)
     }
@@ -125,7 +125,7 @@ impl<F: Field> Sketch<F> {
         requires { length first + length ext.now ≤ MAX_CAPACITY }
         ensures ok { IfOk result (λ s. s ≡ first ++ ext.now) }
         ensures set { (es : List F) → first ≡ sketch_by F.ops es (length first)
-            → ext.now ≡ sums_from F.ops es (length first) (length ext.now)
+            → ext.now ≡ odd_power_sums F.ops es (length first) (length ext.now)
             → IfOk result (λ s. s ≡ sketch_by F.ops es (length first + length ext.now)) }
     {
         let mut sums = first.sums;
@@ -137,7 +137,7 @@ impl<F: Field> Sketch<F> {
     pub fn all_sums(&self, alloc: Global) -> Result<Vec<F>, OutOfMemory>
         ensures ok { IfOk result (λ v. IsAllSums F.ops self.now v.items) }
         ensures set { (es : List F) → self.now ≡ sketch_by F.ops es (length self.now)
-            → IfOk result (λ v. v.items ≡ every_sum F.ops es 1 (2 * length self.now)) }
+            → IfOk result (λ v. v.items ≡ power_sums F.ops es 1 (2 * length self.now)) }
     {
         with_even_sums(alloc, self.sums.as_slice())
     }
@@ -181,7 +181,7 @@ fn add_all<F: Field>(sums: &mut [F], elements: &[F])
     }
 }
 
-/// Adds each item to the one at its place.
+/// Adds each item to the one at its index.
 fn add_each<F: Field>(sums: &mut [F], more: &[F])
     requires { length more.now ≡ length sums.old }
     ensures { sums.new ≡ sums_of_both F.ops sums.old more.now }

@@ -5,16 +5,16 @@ use Rattle.std.proofs.lemmas.List.Elements.{Contains-get_or}
 use Rattle.field_rules.specs.Elements.{numbers}
 use Rattle.field_rules.specs.Lists.{AreDistinct}
 use Rattle.sketch_rules.specs.Sets.{difference}
-use Rattle.sketch_rules.specs.Sketches.{merged, sketch_at}
+use Rattle.sketch_rules.specs.Sketches.{sketch_sum, sketch_at}
 use Rattle.sketch_rules.specs.Answers.{Answer}
-use Rattle.sketch_laws.proofs.EverySums.{length-sums_from}
-use Rattle.sketch_laws.proofs.Merging.{merged-sketches}
-use Rattle.sketch_laws.proofs.Rising.{Rises-from_AllPairs}
+use Rattle.sketch_laws.proofs.EverySums.{length-odd_power_sums}
+use Rattle.sketch_laws.proofs.Merging.{sketch_sum-sketches}
+use Rattle.sketch_laws.proofs.Rising.{IsAscending-from_AllPairs}
 use Rattle.sketch_laws.proofs.Sets.{has-from_Contains, Contains-from_has, difference-from, difference-rises}
 
 -- a sketch of capacity c has c sums
 pub length-sketch_at : (width : ℕ) (es : List ℕ) (c : ℕ) → length (sketch_at width es c) ≡ c
-length-sketch_at width es c = length-sums_from (numbers width) es 0 c
+length-sketch_at width es c = length-odd_power_sums (numbers width) es 0 c
 
 -- what holds of the members of both holds of those of the difference
 pub of_difference : (P : ℕ → Type 0) (xs ys : List ℕ) → All P xs → All P ys → All P (difference xs ys)
@@ -31,11 +31,11 @@ of_difference P xs ys in_xs in_ys k d within =
 -- it answers the sum of the sketches
 pub difference_answers : (width : ℕ) (xs ys : List ℕ) (c : ℕ) → All (λ e. (0 < e) × (e < 2 ^ width)) xs → All (λ e. (0 < e) × (e < 2 ^ width)) ys
     → AreDistinct xs → AreDistinct ys → length (difference xs ys) ≤ c
-    → Answer width (merged (sketch_at width xs c) (sketch_at width ys c)) (difference xs ys)
+    → Answer width (sketch_sum (sketch_at width xs c) (sketch_at width ys c)) (difference xs ys)
 difference_answers width xs ys c in_xs in_ys apart_xs apart_ys few =
-    subst (λ (sums : List ℕ). Answer width sums (difference xs ys)) (sym (merged-sketches width xs ys c apart_xs apart_ys))
+    subst (λ (sums : List ℕ). Answer width sums (difference xs ys)) (sym (sketch_sum-sketches width xs ys c apart_xs apart_ys))
     (record {
-      rises = Rises-from_AllPairs 1 (2 ^ width) (difference xs ys) (λ k d within. (members k d within).0) (λ k d within. (members k d within).1) (difference-rises xs ys apart_xs apart_ys);
+      rises = IsAscending-from_AllPairs 1 (2 ^ width) (difference xs ys) (λ k d within. (members k d within).0) (λ k d within. (members k d within).1) (difference-rises xs ys apart_xs apart_ys);
       few = omega (arith, few, length-sketch_at width (difference xs ys) c);
       sketched = ap (sketch_at width (difference xs ys)) (length-sketch_at width (difference xs ys) c);
     })

@@ -6,9 +6,9 @@ use Rattle.std.proofs.lemmas.Bool.{eqb-true, eq-eqb, ne_eqb, cases_eq, cases_Boo
 use Rattle.field_rules.specs.Ops.{power}
 use Rattle.field_rules.specs.Elements.{numbers}
 use Rattle.field_rules.specs.Lists.{AreDistinct, sums_of_both}
-use Rattle.sketch_rules.specs.PowerSums.{power_sum, sums_from}
-use Rattle.sketch_rules.specs.Sets.{lacking, placed, ascending, difference}
-use Rattle.sketch_rules.specs.Sketches.{merged, sketch_at}
+use Rattle.sketch_rules.specs.PowerSums.{power_sum, odd_power_sums}
+use Rattle.sketch_rules.specs.Sets.{relative_complement, sorted_insertion, sorted_numbers, difference}
+use Rattle.sketch_rules.specs.Sketches.{sketch_sum, sketch_at}
 use Rattle.field_laws.proofs.Xors.{xor_swap}
 use Rattle.sketch_laws.proofs.Sets.{has, Apart, Apart-from_AllPairs}
 
@@ -25,7 +25,7 @@ module _ (f : ℕ → ℕ) where
   total [] = 0
   total (x ∷ xs) = bit_xor (f x) (total xs)
 
-  -- two in front change places
+  -- two in front are exchanged
   total-swap : (a b c : ℕ) → bit_xor a (bit_xor b c) ≡ bit_xor b (bit_xor a c)
   total-swap a b c = sym (xor_assoc a b c) ∙ ap (λ z. bit_xor z c) (xor_comm a b) ∙ xor_assoc b a c
 
@@ -43,18 +43,18 @@ module _ (f : ℕ → ℕ) where
         | false ↦ total-swap (f x) (total (filter t xs)) (total (filter (λ y. not (t y)) xs))
       ])
 
-  total-placed : (x : ℕ) (ys : List ℕ) → total (placed x ys) ≡ bit_xor (f x) (total ys)
-  unfolding placed
-  total-placed x [] = refl
-  total-placed x (y ∷ ys) = elim (nat_lt x y) as (λ b. total (cond b (x ∷ y ∷ ys) (y ∷ placed x ys)) ≡ bit_xor (f x) (bit_xor (f y) (total ys))) [
+  total-sorted_insertion : (x : ℕ) (ys : List ℕ) → total (sorted_insertion x ys) ≡ bit_xor (f x) (total ys)
+  unfolding sorted_insertion
+  total-sorted_insertion x [] = refl
+  total-sorted_insertion x (y ∷ ys) = elim (nat_lt x y) as (λ b. total (cond b (x ∷ y ∷ ys) (y ∷ sorted_insertion x ys)) ≡ bit_xor (f x) (bit_xor (f y) (total ys))) [
     | true ↦ refl
-    | false ↦ ap (bit_xor (f y)) (total-placed x ys) ∙ total-swap (f y) (f x) (total ys)
+    | false ↦ ap (bit_xor (f y)) (total-sorted_insertion x ys) ∙ total-swap (f y) (f x) (total ys)
   ]
 
-  total-ascending : (xs : List ℕ) → total (ascending xs) ≡ total xs
-  unfolding ascending
-  total-ascending [] = refl
-  total-ascending (x ∷ xs) = total-placed x (ascending xs) ∙ ap (bit_xor (f x)) (total-ascending xs)
+  total-sorted_numbers : (xs : List ℕ) → total (sorted_numbers xs) ≡ total xs
+  unfolding sorted_numbers
+  total-sorted_numbers [] = refl
+  total-sorted_numbers (x ∷ xs) = total-sorted_insertion x (sorted_numbers xs) ∙ ap (bit_xor (f x)) (total-sorted_numbers xs)
 
   -- of what is kept for one of two reasons, each is kept for one of them alone
   total-either : (p q : ℕ → Bool) → ((y : ℕ) → p y ≡ true → q y ≡ false) → (ys : List ℕ) → total (filter (λ y. p y || q y) ys) ≡ bit_xor (total (filter p ys)) (total (filter q ys))
@@ -110,12 +110,12 @@ module _ (f : ℕ → ℕ) where
   total-difference : (xs ys : List ℕ) → Apart xs → Apart ys → bit_xor (total xs) (total ys) ≡ total (difference xs ys)
   total-difference xs ys h k =
       ap (λ z. bit_xor z (total ys)) (total-split (has ys) xs)
-      ∙ ap (bit_xor (bit_xor (total (filter (has ys) xs)) (total (lacking xs ys)))) (total-split (has xs) ys)
-      ∙ xor_swap (total (filter (has ys) xs)) (total (lacking xs ys)) (total (filter (has xs) ys)) (total (lacking ys xs))
-      ∙ ap (λ z. bit_xor z (bit_xor (total (lacking xs ys)) (total (lacking ys xs)))) (ap (λ z. bit_xor z (total (filter (has xs) ys))) (total-common xs ys h k) ∙ xor_self (total (filter (has xs) ys)))
-      ∙ xor_zero_l (bit_xor (total (lacking xs ys)) (total (lacking ys xs)))
-      ∙ sym (total-append (lacking xs ys) (lacking ys xs))
-      ∙ sym (total-ascending (lacking xs ys ++ lacking ys xs))
+      ∙ ap (bit_xor (bit_xor (total (filter (has ys) xs)) (total (relative_complement xs ys)))) (total-split (has xs) ys)
+      ∙ xor_swap (total (filter (has ys) xs)) (total (relative_complement xs ys)) (total (filter (has xs) ys)) (total (relative_complement ys xs))
+      ∙ ap (λ z. bit_xor z (bit_xor (total (relative_complement xs ys)) (total (relative_complement ys xs)))) (ap (λ z. bit_xor z (total (filter (has xs) ys))) (total-common xs ys h k) ∙ xor_self (total (filter (has xs) ys)))
+      ∙ xor_zero_l (bit_xor (total (relative_complement xs ys)) (total (relative_complement ys xs)))
+      ∙ sym (total-append (relative_complement xs ys) (relative_complement ys xs))
+      ∙ sym (total-sorted_numbers (relative_complement xs ys ++ relative_complement ys xs))
 
 -- a sum of powers
 power_sum-total : (width k : ℕ) (es : List ℕ) → power_sum (numbers width) k es ≡ total (λ e. power (numbers width) e k) es
@@ -131,12 +131,12 @@ power_sum-difference width k xs ys h j =
     ∙ total-difference (λ e. power (numbers width) e k) xs ys h j
     ∙ sym (power_sum-total width k (difference xs ys))
 
--- the sums from place i on
-merged-sums : (width : ℕ) (xs ys : List ℕ) (i n : ℕ) → Apart xs → Apart ys → merged (sums_from (numbers width) xs i n) (sums_from (numbers width) ys i n) ≡ sums_from (numbers width) (difference xs ys) i n
-unfolding sums_of_both sums_from
-merged-sums width xs ys i zero h k = refl
-merged-sums width xs ys i (suc n) h k = rw (power_sum-difference width (2 * i + 1) xs ys h k, merged-sums width xs ys (i + 1) n h k) refl
+-- the sums from index i on
+sketch_sum-sums : (width : ℕ) (xs ys : List ℕ) (i n : ℕ) → Apart xs → Apart ys → sketch_sum (odd_power_sums (numbers width) xs i n) (odd_power_sums (numbers width) ys i n) ≡ odd_power_sums (numbers width) (difference xs ys) i n
+unfolding sums_of_both odd_power_sums
+sketch_sum-sums width xs ys i zero h k = refl
+sketch_sum-sums width xs ys i (suc n) h k = rw (power_sum-difference width (2 * i + 1) xs ys h k, sketch_sum-sums width xs ys (i + 1) n h k) refl
 
 -- the sum of two sketches of one capacity is the sketch of the difference of the sets
-pub merged-sketches : (width : ℕ) (xs ys : List ℕ) (c : ℕ) → AreDistinct xs → AreDistinct ys → merged (sketch_at width xs c) (sketch_at width ys c) ≡ sketch_at width (difference xs ys) c
-merged-sketches width xs ys c h k = merged-sums width xs ys 0 c (Apart-from_AllPairs xs h) (Apart-from_AllPairs ys k)
+pub sketch_sum-sketches : (width : ℕ) (xs ys : List ℕ) (c : ℕ) → AreDistinct xs → AreDistinct ys → sketch_sum (sketch_at width xs c) (sketch_at width ys c) ≡ sketch_at width (difference xs ys) c
+sketch_sum-sketches width xs ys c h k = sketch_sum-sums width xs ys 0 c (Apart-from_AllPairs xs h) (Apart-from_AllPairs ys k)

@@ -6,8 +6,8 @@ use Rattle.std.proofs.lemmas.List.{length-map, get_or-map}
 use Rattle.std.proofs.lemmas.List.Elements.{All-map}
 use Rattle.field_rules.specs.Ops.{Ops}
 use Rattle.field_rules.specs.Numbered.{IsNumbered}
-use Rattle.sketch_rules.specs.Answers.{Rises}
-use Rattle.sketch_laws.proofs.Rising.{Rises-from_AllPairs}
+use Rattle.sketch_rules.specs.Answers.{IsAscending}
+use Rattle.sketch_laws.proofs.Rising.{IsAscending-from_AllPairs}
 
 module _ {A : Type 0} (ops : Ops A) (bits_of : A → ℕ) (width : ℕ) (numbered : IsNumbered ops bits_of width) where
   -- an element other than zero has a bit
@@ -25,9 +25,9 @@ module _ {A : Type 0} (ops : Ops A) (bits_of : A → ℕ) (width : ℕ) (numbere
       let less = rises i j ops.zero below inside in
       omega (arith, get_or-map bits_of es i ops.zero d (omega arith), get_or-map bits_of es j ops.zero d inside)
 
-  pub Rises-bits : (es : List A) → AllPairs (λ a b. bits_of a < bits_of b) es → All (λ a. a ≢ ops.zero) es → Rises 1 (2 ^ width) (map bits_of es)
-  Rises-bits es rises nonzero =
-      Rises-from_AllPairs 1 (2 ^ width) (map bits_of es)
+  pub IsAscending-bits : (es : List A) → AllPairs (λ a b. bits_of a < bits_of b) es → All (λ a. a ≢ ops.zero) es → IsAscending 1 (2 ^ width) (map bits_of es)
+  IsAscending-bits es rises nonzero =
+      IsAscending-from_AllPairs 1 (2 ^ width) (map bits_of es)
       (All-map (λ n. 1 ≤ n) bits_of es (λ k d lt. has_bit (get_or es k d) (nonzero k d lt)))
       (All-map (λ n. n < 2 ^ width) bits_of es (λ k d lt. numbered.below (get_or es k d)))
       (bits_rise es rises)

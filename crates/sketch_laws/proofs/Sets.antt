@@ -7,7 +7,7 @@ use Rattle.std.proofs.lemmas.Bool.Decides.{nat_tests}
 use Rattle.std.proofs.lemmas.List.Kept.{AllPairs-cons}
 use Rattle.std.proofs.lemmas.List.Elements.{Contains-get_or}
 use Rattle.field_rules.specs.Lists.{AreDistinct}
-use Rattle.sketch_rules.specs.Sets.{lacking, placed, ascending, difference}
+use Rattle.sketch_rules.specs.Sets.{relative_complement, sorted_insertion, sorted_numbers, difference}
 
 -- whether the number is in the list
 abbrev pub has : List ℕ → ℕ → Bool
@@ -19,9 +19,9 @@ Apart [] = Unit {0}
 Apart (x ∷ xs) = (has xs x ≡ false) × Apart xs
 
 -- each number is below those after it
-abbrev pub Rises : List ℕ → Type 0
-Rises [] = Unit {0}
-Rises (x ∷ xs) = ((n : ℕ) → has xs n ≡ true → x < n) × Rises xs
+abbrev pub IsAscending : List ℕ → Type 0
+IsAscending [] = Unit {0}
+IsAscending (x ∷ xs) = ((n : ℕ) → has xs n ≡ true → x < n) × IsAscending xs
 
 -- ---- membership
 
@@ -58,10 +58,10 @@ Apart-from_AllPairs (x ∷ xs) h = (
 )
 
 -- an ascending list
-pub AllPairs-from_Rises : (xs : List ℕ) → Rises xs → AllPairs (λ a b. a < b) xs
-AllPairs-from_Rises [] h = λ i j d below within. absurd (omega arith)
-AllPairs-from_Rises (x ∷ xs) h =
-    AllPairs-cons (λ a b. a < b) x xs (λ k d inside. h.0 (get_or xs k d) (has-from_Contains xs (get_or xs k d) (Contains-get_or xs k d inside))) (AllPairs-from_Rises xs h.1)
+pub AllPairs-from_IsAscending : (xs : List ℕ) → IsAscending xs → AllPairs (λ a b. a < b) xs
+AllPairs-from_IsAscending [] h = λ i j d below within. absurd (omega arith)
+AllPairs-from_IsAscending (x ∷ xs) h =
+    AllPairs-cons (λ a b. a < b) x xs (λ k d inside. h.0 (get_or xs k d) (has-from_Contains xs (get_or xs k d) (Contains-get_or xs k d inside))) (AllPairs-from_IsAscending xs h.1)
 
 -- ---- what the parts of a list have
 
@@ -93,12 +93,12 @@ has-filter t (x ∷ xs) n = elim (cases_Bool (x == n)) [
       ])
 ]
 
-pub has-placed : (x : ℕ) (ys : List ℕ) (n : ℕ) → has (placed x ys) n ≡ ((x == n) || has ys n)
-unfolding placed
-has-placed x [] n = refl
-has-placed x (y ∷ ys) n = elim (nat_lt x y) as (λ b. has (cond b (x ∷ y ∷ ys) (y ∷ placed x ys)) n ≡ ((x == n) || ((y == n) || has ys n))) [
+pub has-sorted_insertion : (x : ℕ) (ys : List ℕ) (n : ℕ) → has (sorted_insertion x ys) n ≡ ((x == n) || has ys n)
+unfolding sorted_insertion
+has-sorted_insertion x [] n = refl
+has-sorted_insertion x (y ∷ ys) n = elim (nat_lt x y) as (λ b. has (cond b (x ∷ y ∷ ys) (y ∷ sorted_insertion x ys)) n ≡ ((x == n) || ((y == n) || has ys n))) [
   | true ↦ refl
-  | false ↦ ap (λ b. (y == n) || b) (has-placed x ys n) ∙ turned (y == n) (x == n) (has ys n)
+  | false ↦ ap (λ b. (y == n) || b) (has-sorted_insertion x ys n) ∙ turned (y == n) (x == n) (has ys n)
 ]
   where
     turned : (a b c : Bool) → (a || (b || c)) ≡ (b || (a || c))
@@ -107,10 +107,10 @@ has-placed x (y ∷ ys) n = elim (nat_lt x y) as (λ b. has (cond b (x ∷ y ∷
     turned false true c = refl
     turned false false c = refl
 
-pub has-ascending : (xs : List ℕ) (n : ℕ) → has (ascending xs) n ≡ has xs n
-unfolding ascending
-has-ascending [] n = refl
-has-ascending (x ∷ xs) n = has-placed x (ascending xs) n ∙ ap (λ b. (x == n) || b) (has-ascending xs n)
+pub has-sorted_numbers : (xs : List ℕ) (n : ℕ) → has (sorted_numbers xs) n ≡ has xs n
+unfolding sorted_numbers
+has-sorted_numbers [] n = refl
+has-sorted_numbers (x ∷ xs) n = has-sorted_insertion x (sorted_numbers xs) n ∙ ap (λ b. (x == n) || b) (has-sorted_numbers xs n)
 
 -- ---- lists without repeats
 
@@ -132,10 +132,10 @@ Apart-append (x ∷ xs) ys h k disjoint = (
 lower : (x y : ℕ) → nat_lt x y ≡ false → (y == x) ≡ false → y < x
 lower x y high other = grind (arith, nat_tests, high, other)
 
-Rises-placed : (x : ℕ) (ys : List ℕ) → has ys x ≡ false → Rises ys → Rises (placed x ys)
-unfolding placed
-Rises-placed x [] gone h = ((λ n inside. cc inside), tt)
-Rises-placed x (y ∷ ys) gone h = elim (cases_Bool (nat_lt x y)) [
+IsAscending-sorted_insertion : (x : ℕ) (ys : List ℕ) → has ys x ≡ false → IsAscending ys → IsAscending (sorted_insertion x ys)
+unfolding sorted_insertion
+IsAscending-sorted_insertion x [] gone h = ((λ n inside. cc inside), tt)
+IsAscending-sorted_insertion x (y ∷ ys) gone h = elim (cases_Bool (nat_lt x y)) [
   | inl low ↦
       let below : x < y = ltb-true x y low in
       rw low (
@@ -149,31 +149,31 @@ Rises-placed x (y ∷ ys) gone h = elim (cases_Bool (nat_lt x y)) [
       let parts = or_parts (y == x) (has ys x) gone in
       let below : y < x = lower x y high parts.0 in
       rw high (
-        (λ n inside. elim (or_cases (x == n) (has ys n) (sym (has-placed x ys n) ∙ inside)) [
+        (λ n inside. elim (or_cases (x == n) (has ys n) (sym (has-sorted_insertion x ys n) ∙ inside)) [
           | inl same ↦ let e = eqb-true x n same in omega arith
           | inr later ↦ h.0 n later
         ]),
-        Rises-placed x ys parts.1 h.1,
+        IsAscending-sorted_insertion x ys parts.1 h.1,
       )
 ]
 
-Rises-ascending : (xs : List ℕ) → Apart xs → Rises (ascending xs)
-unfolding ascending
-Rises-ascending [] h = tt
-Rises-ascending (x ∷ xs) h = Rises-placed x (ascending xs) (has-ascending xs x ∙ h.0) (Rises-ascending xs h.1)
+IsAscending-sorted_numbers : (xs : List ℕ) → Apart xs → IsAscending (sorted_numbers xs)
+unfolding sorted_numbers
+IsAscending-sorted_numbers [] h = tt
+IsAscending-sorted_numbers (x ∷ xs) h = IsAscending-sorted_insertion x (sorted_numbers xs) (has-sorted_numbers xs x ∙ h.0) (IsAscending-sorted_numbers xs h.1)
 
 -- ---- the difference of two sets
 
 -- a number is in it where it is in one of them alone
 pub has-difference : (xs ys : List ℕ) (n : ℕ) → has (difference xs ys) n ≡ ((has xs n && not (has ys n)) || (has ys n && not (has xs n)))
 has-difference xs ys n =
-    has-ascending (lacking xs ys ++ lacking ys xs) n
-    ∙ has-append (lacking xs ys) (lacking ys xs) n
-    ∙ ap (λ b. b || has (lacking ys xs) n) (has-filter (λ x. not (has ys x)) xs n)
+    has-sorted_numbers (relative_complement xs ys ++ relative_complement ys xs) n
+    ∙ has-append (relative_complement xs ys) (relative_complement ys xs) n
+    ∙ ap (λ b. b || has (relative_complement ys xs) n) (has-filter (λ x. not (has ys x)) xs n)
     ∙ ap (λ b. (has xs n && not (has ys n)) || b) (has-filter (λ y. not (has xs y)) ys n)
 
 -- no number is in both parts
-parts_disjoint : (xs ys : List ℕ) (n : ℕ) → has (lacking xs ys) n ≡ true → has (lacking ys xs) n ≡ false
+parts_disjoint : (xs ys : List ℕ) (n : ℕ) → has (relative_complement xs ys) n ≡ true → has (relative_complement ys xs) n ≡ false
 parts_disjoint xs ys n h =
     has-filter (λ y. not (has xs y)) ys n ∙ never (has xs n) (has ys n) (sym (has-filter (λ x. not (has ys x)) xs n) ∙ h)
   where
@@ -186,8 +186,8 @@ parts_disjoint xs ys n h =
 -- the difference of two sets is strictly ascending
 pub difference-rises : (xs ys : List ℕ) → AreDistinct xs → AreDistinct ys → AllPairs (λ a b. a < b) (difference xs ys)
 difference-rises xs ys h k =
-    AllPairs-from_Rises (difference xs ys) (Rises-ascending (lacking xs ys ++ lacking ys xs)
-    (Apart-append (lacking xs ys) (lacking ys xs) (Apart-filter (λ x. not (has ys x)) xs (Apart-from_AllPairs xs h)) (Apart-filter (λ y. not (has xs y)) ys (Apart-from_AllPairs ys k)) (parts_disjoint xs ys)))
+    AllPairs-from_IsAscending (difference xs ys) (IsAscending-sorted_numbers (relative_complement xs ys ++ relative_complement ys xs)
+    (Apart-append (relative_complement xs ys) (relative_complement ys xs) (Apart-filter (λ x. not (has ys x)) xs (Apart-from_AllPairs xs h)) (Apart-filter (λ y. not (has xs y)) ys (Apart-from_AllPairs ys k)) (parts_disjoint xs ys)))
 
 -- a number that isn't in the list
 pub has-from_none : (xs : List ℕ) (n : ℕ) → ¬ Contains xs n → has xs n ≡ false
@@ -240,20 +240,20 @@ filter_within : (t : ℕ → Bool) (xs : List ℕ) → length (filter t xs) ≤ 
 filter_within t [] = omega arith
 filter_within t (x ∷ xs) = let rest = filter_within t xs in elim (t x) as (λ b. length (cond b (x ∷ filter t xs) (filter t xs)) ≤ suc (length xs)) [ true ↦ omega arith | false ↦ omega arith ]
 
-length-placed : (x : ℕ) (ys : List ℕ) → length (placed x ys) ≡ suc (length ys)
-unfolding placed
-length-placed x [] = refl
-length-placed x (y ∷ ys) = elim (nat_lt x y) as (λ b. length (cond b (x ∷ y ∷ ys) (y ∷ placed x ys)) ≡ suc (suc (length ys))) [
+length-sorted_insertion : (x : ℕ) (ys : List ℕ) → length (sorted_insertion x ys) ≡ suc (length ys)
+unfolding sorted_insertion
+length-sorted_insertion x [] = refl
+length-sorted_insertion x (y ∷ ys) = elim (nat_lt x y) as (λ b. length (cond b (x ∷ y ∷ ys) (y ∷ sorted_insertion x ys)) ≡ suc (suc (length ys))) [
   | true ↦ refl
-  | false ↦ ap suc (length-placed x ys)
+  | false ↦ ap suc (length-sorted_insertion x ys)
 ]
 
-length-ascending : (xs : List ℕ) → length (ascending xs) ≡ length xs
-unfolding ascending
-length-ascending [] = refl
-length-ascending (x ∷ xs) = length-placed x (ascending xs) ∙ ap suc (length-ascending xs)
+length-sorted_numbers : (xs : List ℕ) → length (sorted_numbers xs) ≡ length xs
+unfolding sorted_numbers
+length-sorted_numbers [] = refl
+length-sorted_numbers (x ∷ xs) = length-sorted_insertion x (sorted_numbers xs) ∙ ap suc (length-sorted_numbers xs)
 
 -- no more than both lists together
 pub difference_within : (xs ys : List ℕ) → length (difference xs ys) ≤ length xs + length ys
 difference_within xs ys =
-    omega (arith, length-ascending (lacking xs ys ++ lacking ys xs), length-append (lacking xs ys) (lacking ys xs), filter_within (λ x. not (has ys x)) xs, filter_within (λ y. not (has xs y)) ys)
+    omega (arith, length-sorted_numbers (relative_complement xs ys ++ relative_complement ys xs), length-append (relative_complement xs ys) (relative_complement ys xs), filter_within (λ x. not (has ys x)) xs, filter_within (λ y. not (has xs y)) ys)

@@ -3,7 +3,7 @@ use Rattle.std.proofs.Common.{◌≡◌, ℕ, zero, suc, ◌+◌, ◌*◌, List,
 use Rattle.field_rules.specs.Ops.{Ops, power}
 use Rattle.field_rules.specs.Elements.{product, numbers}
 use Rattle.field_rules.specs.Numbered.{IsNumbered}
-use Rattle.sketch_rules.specs.PowerSums.{power_sum, sums_from, sketch_by}
+use Rattle.sketch_rules.specs.PowerSums.{power_sum, odd_power_sums, sketch_by}
 use Rattle.sketch_rules.specs.Sketches.{sketch_at}
 
 module _ {A : Type 0} (ops : Ops A) (bits_of : A → ℕ) (width : ℕ) (numbered : IsNumbered ops bits_of width) where
@@ -22,11 +22,11 @@ module _ {A : Type 0} (ops : Ops A) (bits_of : A → ℕ) (width : ℕ) (numbere
       ∙ rw (power-numbers e k, power_sum-numbers k es) refl
 
   -- the bits of the sums
-  pub sums_from-numbers : (es : List A) (i n : ℕ) → map bits_of (sums_from ops es i n) ≡ sums_from (numbers width) (map bits_of es) i n
-  unfolding sums_from
-  sums_from-numbers es i zero = refl
-  sums_from-numbers es i (suc n) = rw (power_sum-numbers (2 * i + 1) es, sums_from-numbers es (i + 1) n) refl
+  pub odd_power_sums-numbers : (es : List A) (i n : ℕ) → map bits_of (odd_power_sums ops es i n) ≡ odd_power_sums (numbers width) (map bits_of es) i n
+  unfolding odd_power_sums
+  odd_power_sums-numbers es i zero = refl
+  odd_power_sums-numbers es i (suc n) = rw (power_sum-numbers (2 * i + 1) es, odd_power_sums-numbers es (i + 1) n) refl
 
   -- the bits of a sketch
   pub sketch_by-numbers : (es : List A) (c : ℕ) → map bits_of (sketch_by ops es c) ≡ sketch_at width (map bits_of es) c
-  sketch_by-numbers es c = sums_from-numbers es 0 c
+  sketch_by-numbers es c = odd_power_sums-numbers es 0 c

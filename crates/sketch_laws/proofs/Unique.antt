@@ -12,15 +12,15 @@ use Rattle.field_rules.specs.Lists.{AreDistinct}
 use Rattle.sketch_rules.specs.PowerSums.{power_sum, sketch_by}
 use Rattle.sketch_rules.specs.Sets.{difference}
 use Rattle.sketch_rules.specs.Sketches.{sketch_at}
-use Rattle.sketch_rules.specs.Answers.{Rises, Answer, answer_at, answer_at-some, answer_at-none}
-use Rattle.field_laws.specs.Certified.{Certified}
+use Rattle.sketch_rules.specs.Answers.{IsAscending, Answer, answer_at, answer_at-some, answer_at-none}
+use Rattle.field_laws.specs.Certified.{Certificate}
 use Rattle.field_laws.proofs.FieldOfNumbers.{bits_of, field, numbered, ops, ring}
 use Rattle.field_laws.proofs.NumberedLists.{elements_of, same_elements, distinct}
 use Rattle.field_laws.proofs.Weights.{lone_weight}
-use Rattle.sketch_laws.proofs.EverySums.{sums_zero, get_or-sums_from, length-sums_from}
+use Rattle.sketch_laws.proofs.EverySums.{sums_zero, get_or-odd_power_sums, length-odd_power_sums}
 use Rattle.sketch_laws.proofs.Merging.{power_sum-difference}
-use Rattle.sketch_laws.proofs.NumberedLists.{Rises-bits}
-use Rattle.sketch_laws.proofs.Rising.{each_within, same_rising, AllPairs-from_Rises, differ_from_rises, Rises-difference}
+use Rattle.sketch_laws.proofs.NumberedLists.{IsAscending-bits}
+use Rattle.sketch_laws.proofs.Rising.{each_within, same_rising, AllPairs-from_IsAscending, differ_from_rises, IsAscending-difference}
 use Rattle.sketch_laws.proofs.Sets.{Apart, Apart-from_AllPairs, difference_within, same_where_no_difference}
 use Rattle.sketch_laws.proofs.SketchNumbers.{power_sum-numbers, sketch_by-numbers}
 use Rattle.sketch_laws.proofs.Weights.{weighted-own}
@@ -35,7 +35,7 @@ module _ {A : Type 0} (ops : Ops A) (ring : IsRing ops) (no_zero_divisor : (a b 
 
 module _ {A : Type 0} (ops : Ops A) (bits_of : A → ℕ) (width : ℕ) (ring : IsRing ops) (field : IsField ops width) (numbered : IsNumbered ops bits_of width) where
   -- at most 2c nonzero numbers with such sums are none at all
-  no_numbers : (ns : List ℕ) (c : ℕ) → Rises 1 (2 ^ width) ns → length ns ≤ 2 * c
+  no_numbers : (ns : List ℕ) (c : ℕ) → IsAscending 1 (2 ^ width) ns → length ns ≤ 2 * c
       → ((i : ℕ) → i < c → power_sum (numbers width) (2 * i + 1) ns ≡ 0) → ns ≡ []
   no_numbers [] c rises few none = refl
   no_numbers (n ∷ ns) c rises few none =
@@ -55,7 +55,7 @@ module _ {A : Type 0} (ops : Ops A) (bits_of : A → ℕ) (width : ℕ) (ring : 
           ∙ sym numbered.zero_bits)
 
       differ : AreDistinct made.0
-      differ = distinct ops bits_of width numbered made.0 (subst (AllPairs (λ a b. a < b)) (sym made.1) (AllPairs-from_Rises 1 (2 ^ width) (n ∷ ns) rises))
+      differ = distinct ops bits_of width numbered made.0 (subst (AllPairs (λ a b. a < b)) (sym made.1) (AllPairs-from_IsAscending 1 (2 ^ width) (n ∷ ns) rises))
 
       no_head : n ≡ 0
       no_head =
@@ -67,13 +67,13 @@ module _ {A : Type 0} (ops : Ops A) (bits_of : A → ℕ) (width : ℕ) (ring : 
   -- the sums of an answer
   answer_sums : (sums es : List ℕ) → Answer width sums es → (i : ℕ) → i < length sums → power_sum (numbers width) (2 * i + 1) es ≡ get_or sums i 0
   answer_sums sums es answer i lt =
-      sym (get_or-sums_from (numbers width) es 0 (length sums) i 0 lt ∙ ap (λ k. power_sum (numbers width) k es) (omega arith))
+      sym (get_or-odd_power_sums (numbers width) es 0 (length sums) i 0 lt ∙ ap (λ k. power_sum (numbers width) k es) (omega arith))
       ∙ ap (λ ms. get_or ms i 0) answer.sketched
 
   -- two answers have no difference
   no_difference : (sums xs ys : List ℕ) → Answer width sums xs → Answer width sums ys → difference xs ys ≡ []
   no_difference sums xs ys first second =
-      no_numbers (difference xs ys) (length sums) (Rises-difference 1 (2 ^ width) xs ys first.rises second.rises)
+      no_numbers (difference xs ys) (length sums) (IsAscending-difference 1 (2 ^ width) xs ys first.rises second.rises)
       (omega (arith, difference_within xs ys, first.few, second.few))
       (λ i lt. sym (power_sum-difference width (2 * i + 1) xs ys (apart xs first) (apart ys second))
       ∙ ap (λ z. bit_xor z (power_sum (numbers width) (2 * i + 1) ys)) (answer_sums sums xs first i lt)
@@ -102,13 +102,13 @@ module _ {A : Type 0} (ops : Ops A) (bits_of : A → ℕ) (width : ℕ) (ring : 
   pub answer_of_elements : (es : List A) (c : ℕ) → AllPairs (λ a b. bits_of a < bits_of b) es → All (λ a. a ≢ ops.zero) es → length es ≤ c
       → Answer width (map bits_of (sketch_by ops es c)) (map bits_of es)
   answer_of_elements es c rises nonzero few = record {
-    rises = Rises-bits ops bits_of width numbered es rises nonzero;
+    rises = IsAscending-bits ops bits_of width numbered es rises nonzero;
     few = omega (arith, length-map es bits_of, size);
     sketched = ap (sketch_at width (map bits_of es)) size ∙ sym (sketch_by-numbers ops bits_of width numbered es c);
   }
     where
       size : length (map bits_of (sketch_by ops es c)) ≡ c
-      size = length-map (sketch_by ops es c) bits_of ∙ length-sums_from ops es 0 c
+      size = length-map (sketch_by ops es c) bits_of ∙ length-odd_power_sums ops es 0 c
 
   -- two sets of elements with the same sketch are the same
   pub elements_unique : (c : ℕ) (xs ys : List A) → AllPairs (λ a b. bits_of a < bits_of b) xs → AllPairs (λ a b. bits_of a < bits_of b) ys → All (λ a. a ≢ ops.zero) xs → All (λ a. a ≢ ops.zero) ys
@@ -121,12 +121,12 @@ module _ {A : Type 0} (ops : Ops A) (bits_of : A → ℕ) (width : ℕ) (ring : 
 -- ---- over numbers alone
 
 -- at a width that passes the tests a sketch has at most one answer
-pub numbers_unique : (width : ℕ) → Certified width → (sums xs ys : List ℕ) → Answer width sums xs → Answer width sums ys → xs ≡ ys
+pub numbers_unique : (width : ℕ) → Certificate width → (sums xs ys : List ℕ) → Answer width sums xs → Answer width sums ys → xs ≡ ys
 numbers_unique width certified =
     answer_unique (ops width certified.is_width) (bits_of width) width (ring width certified.is_width) (field width certified) (numbered width certified.is_width)
 
 -- which is what answer_at gives, exactly where there is one
-pub answer_at-exactly : (width : ℕ) → Certified width → (sums es : List ℕ) → (answer_at width sums ≡ Some es) ↔ Answer width sums es
+pub answer_at-exactly : (width : ℕ) → Certificate width → (sums es : List ℕ) → (answer_at width sums ≡ Some es) ↔ Answer width sums es
 answer_at-exactly width certified sums es = (
   answer_at-some width sums es,
   answer_at-is (ops width certified.is_width) (bits_of width) width (ring width certified.is_width) (field width certified) (numbered width certified.is_width) sums es,

@@ -9,7 +9,7 @@ ghost use Rattle.field_rules.specs.Numbered.{IsNumbered};
 ghost use Rattle.field_rules.specs.Lists.{AreDistinct};
 ghost use Rattle.sketch_rules.specs.PowerSums.{sketch_by};
 ghost use Rattle.sketch_rules.specs.Sets.{difference};
-ghost use Rattle.sketch_rules.specs.Sketches.{merged, sketch_at};
+ghost use Rattle.sketch_rules.specs.Sketches.{sketch_sum, sketch_at};
 ghost use Rattle.sketch_rules.specs.Answers.{Answer, answer_at, answer_of};
 
 /// The difference of two sets is strictly ascending and holds the numbers that are in exactly one of them, and its
@@ -18,7 +18,7 @@ pub fn difference_of_sets()
     ensures rises { (xs ys : List ℕ) → AreDistinct xs → AreDistinct ys → AllPairs (λ a b. a < b) (difference xs ys) }
     ensures holds { (xs ys : List ℕ) (n : ℕ) → Contains (difference xs ys) n ↔ ((Contains xs n × (¬ Contains ys n)) ⊎ (Contains ys n × (¬ Contains xs n))) }
     ensures sketches { (width : ℕ) (xs ys : List ℕ) (c : ℕ) → AreDistinct xs → AreDistinct ys
-        → merged (sketch_at width xs c) (sketch_at width ys c) ≡ sketch_at width (difference xs ys) c }
+        → sketch_sum (sketch_at width xs c) (sketch_at width ys c) ≡ sketch_at width (difference xs ys) c }
 {}
 
 /// Over a field whose elements are told by their bits, two sets of no more elements than the capacity are the same where

@@ -8,14 +8,14 @@ use Rattle.std.proofs.lemmas.Cmp.{nat_list_eq_equiv}
 use Rattle.sketch_rules.specs.Sketches.{sketch_at}
 
 -- the numbers rise strictly, from low on and below high
-unfoldable pub Rises : ℕ → ℕ → List ℕ → Type 0
-Rises low high [] = Unit {0}
-Rises low high (e ∷ es) = (low ≤ e) × (e < high) × Rises (e + 1) high es
+unfoldable pub IsAscending : ℕ → ℕ → List ℕ → Type 0
+IsAscending low high [] = Unit {0}
+IsAscending low high (e ∷ es) = (low ≤ e) × (e < high) × IsAscending (e + 1) high es
 
 -- es is a set of nonzero elements of the field of 2 ^ width elements that has exactly this sketch, and is no larger than
 -- its capacity
 pub record Answer (width : ℕ) (sums es : List ℕ) : Type 0 where
-  pub rises : Rises 1 (2 ^ width) es
+  pub rises : IsAscending 1 (2 ^ width) es
   pub few : length es ≤ length sums
   pub sketched : sketch_at width es (length sums) ≡ sums
 
@@ -89,24 +89,24 @@ no_front low None e = refl
 -- what was sought: a list that passes the test, of at most few numbers that rise
 record IsAmong (test : List ℕ → Bool) (low high few : ℕ) (es : List ℕ) : Type 0 where
   passes : test es ≡ true
-  rises : Rises low high es
+  rises : IsAscending low high es
   fits : length es ≤ few
 
 -- the empty list
 among_empty : (test : List ℕ → Bool) (low high few : ℕ) (es : List ℕ) → (test [] ≡ true) × (es ≡ []) → IsAmong test low high few es
-unfolding Rises
+unfolding IsAscending
 among_empty test low high few es h =
     subst (IsAmong test low high few) (sym h.1) (record { passes = h.0; rises = tt; fits = omega arith })
 
 -- a list without low
 among_later : (test : List ℕ → Bool) (low high few : ℕ) (es : List ℕ) → IsAmong test (low + 1) high few es → IsAmong test low high few es
-unfolding Rises
+unfolding IsAscending
 among_later test low high few [] h = record { passes = h.passes; rises = tt; fits = h.fits }
 among_later test low high few (e ∷ es) h = let r = h.rises in record { passes = h.passes; rises = (omega arith, r.1, r.2); fits = h.fits }
 
 -- a list with low
 among_front : (test : List ℕ → Bool) (low high few : ℕ) (ds es : List ℕ) → low < high → low ∷ ds ≡ es → IsAmong (λ ds. test (low ∷ ds)) (low + 1) high few ds → IsAmong test low high (suc few) es
-unfolding Rises
+unfolding IsAscending
 among_front test low high few ds es lt e h = let within = h.fits in
     subst (IsAmong test low high (suc few)) e (record { passes = h.passes; rises = (omega arith, lt, h.rises); fits = omega arith })
 
@@ -124,8 +124,8 @@ first_among-some test (suc n) low (suc few) high to es e =
     ]
 
 -- where nothing is found, nothing that is sought passes
-first_among-none : (test : List ℕ → Bool) (n low few high : ℕ) → low + n ≡ high → first_among test n low few ≡ None → (es : List ℕ) → Rises low high es → length es ≤ few → test es ≡ false
-unfolding first_among Rises
+first_among-none : (test : List ℕ → Bool) (n low few high : ℕ) → low + n ≡ high → first_among test n low few ≡ None → (es : List ℕ) → IsAscending low high es → length es ≤ few → test es ≡ false
+unfolding first_among IsAscending
 first_among-none test zero low few high to none [] rises fits = empty_fails (test []) none
 first_among-none test zero low few high to none (e ∷ es) rises fits = absurd (omega arith)
 first_among-none test (suc n) low zero high to none [] rises fits = empty_fails (test []) none
@@ -135,7 +135,7 @@ first_among-none test (suc n) low (suc few) high to none [] rises fits =
 first_among-none test (suc n) low (suc few) high to none (e ∷ es) rises fits = elim (cases_eq low e) [
   | inl here ↦
       subst (λ z. test (z ∷ es) ≡ false) here
-      (first_among-none (λ ds. test (low ∷ ds)) n (low + 1) few high (omega arith) (no_front low (first_among (λ ds. test (low ∷ ds)) n (low + 1) few) nones.1) es (subst (λ z. Rises (z + 1) high es) (sym here) rises.2) (omega arith))
+      (first_among-none (λ ds. test (low ∷ ds)) n (low + 1) few high (omega arith) (no_front low (first_among (λ ds. test (low ∷ ds)) n (low + 1) few) nones.1) es (subst (λ z. IsAscending (z + 1) high es) (sym here) rises.2) (omega arith))
   | inr later ↦ first_among-none test n (low + 1) (suc few) high (omega arith) nones.0 (e ∷ es) (omega arith, rises.1, rises.2) fits
 ]
   where

@@ -34,5 +34,5 @@ sums_in (a ∷ b ∷ c ∷ d ∷ rest) = from_le_bytes w32 (a ∷ b ∷ c ∷ d 
 sums_in fewer = []
 
 -- the sum of two sketches of one capacity. The sum of two numbers is their exclusive or, whatever the width
-abbrev pub merged : List ℕ → List ℕ → List ℕ
-merged ms ns = sums_of_both (numbers 32) ms ns
+abbrev pub sketch_sum : List ℕ → List ℕ → List ℕ
+sketch_sum ms ns = sums_of_both (numbers 32) ms ns

@@ -5,10 +5,10 @@ use Rattle.std.specs.List.{All, AllPairs}
 use Rattle.std.proofs.lemmas.List.Elements.{All-filter, filter_passes}
 use Rattle.std.proofs.lemmas.List.Kept.{AllPairs-filter}
 use Rattle.field_rules.specs.Ops.{Ops, IsRing}
-use Rattle.field_rules.specs.Fields.{IsField, IsToldApart, trace_of}
+use Rattle.field_rules.specs.Fields.{IsField, IsSeparatedByTrace, trace_of}
 use Rattle.field_rules.specs.Numbered.{IsNumbered}
 use Rattle.field_rules.specs.Lists.{AreDistinct}
-use Rattle.poly_rules.specs.Polynomials.{Same, value_at}
+use Rattle.poly_rules.specs.Polynomials.{IsSamePolynomial, value_at}
 use Rattle.poly_rules.specs.Remainders.{IsFrobeniusTable}
 use Rattle.poly_rules.specs.Roots.{IsRoot}
 use Rattle.splitting_laws.specs.Traces.{trace_polynomial}
@@ -34,24 +34,24 @@ module _ {A : Type 0} (ops : Ops A) (bits_of : A → ℕ) (n : ℕ) where
   alike_few j es few = record { each = λ i b lt is k l d below within. absurd (omega arith) }
 
   -- at the end of the basis no two members are left
-  pub alike_end : ((a b : A) → a ≢ b → IsToldApart ops bits_of n a b) → (es : List A) → AreDistinct es → IsAlike ops bits_of n n es → length es ≤ 1
+  pub alike_end : ((a b : A) → a ≢ b → IsSeparatedByTrace ops bits_of n a b) → (es : List A) → AreDistinct es → IsAlike ops bits_of n n es → length es ≤ 1
   alike_end separates [] differ alike = omega arith
   alike_end separates (a ∷ []) differ alike = omega arith
   alike_end separates (a ∷ b ∷ es) differ alike =
-      let apart : IsToldApart ops bits_of n a b = separates a b (differ 0 1 a (omega arith) (omega arith)) in
-      absurd (apart.differ (alike.each apart.place apart.by apart.below apart.bits 0 1 a (omega arith) (omega arith)))
+      let apart : IsSeparatedByTrace ops bits_of n a b = separates a b (differ 0 1 a (omega arith) (omega arith)) in
+      absurd (apart.differ (alike.each apart.exponent apart.by apart.below apart.bits 0 1 a (omega arith) (omega arith)))
 
   module _ (width : ℕ) (numbered : IsNumbered ops bits_of width) where
     -- one basis element more, where all members have one trace
     pub alike_more : (j : ℕ) (b c : A) (es : List A) → bits_of b ≡ 2 ^ j → All (λ e. trace_of ops n (ops.times b e) ≡ c) es → IsAlike ops bits_of n j es → IsAlike ops bits_of n (j + 1) es
-    alike_more j b c es is one alike = record { each = λ i a lt bits. by_place i a bits (cases i j lt) }
+    alike_more j b c es is one alike = record { each = λ i a lt bits. by_index i a bits (cases i j lt) }
       where
         cases : (i j : ℕ) → i < j + 1 → (i < j) ⊎ (i ≡ j)
         cases i j lt = grind arith
 
-        by_place : (i : ℕ) (a : A) → bits_of a ≡ 2 ^ i → (i < j) ⊎ (i ≡ j) → AllPairs (λ x y. trace_of ops n (ops.times a x) ≡ trace_of ops n (ops.times a y)) es
-        by_place i a bits (inl below) = alike.each i a below bits
-        by_place i a bits (inr here) = λ k l d below within.
+        by_index : (i : ℕ) (a : A) → bits_of a ≡ 2 ^ i → (i < j) ⊎ (i ≡ j) → AllPairs (λ x y. trace_of ops n (ops.times a x) ≡ trace_of ops n (ops.times a y)) es
+        by_index i a bits (inl below) = alike.each i a below bits
+        by_index i a bits (inr here) = λ k l d below within.
             (let same : a ≡ b = numbered.same a b (bits ∙ ap (λ z. 2 ^ z) here ∙ sym is) in
             ap (λ z. trace_of ops n (ops.times z (get_or es k d))) same
             ∙ one k d (omega arith)
@@ -91,7 +91,7 @@ module _ {A : Type 0} (ops : Ops A) (bits_of : A → ℕ) (n : ℕ) where
 
 module _ {A : Type 0} (ops : Ops A) (ring : IsRing ops) (bits_of : A → ℕ) (n : ℕ) (field : IsField ops n) (numbered : IsNumbered ops bits_of n) where
   -- the values of a trace polynomial at the roots of f are zero or one, as the test of their bits says
-  pub told_of_traces : (f : List A) (table : List (List A)) (b : A) (t es : List A) → IsFrobeniusTable ops f n table → All (IsRoot ops f) es → Same ops t (trace_polynomial ops b n table)
+  pub told_of_traces : (f : List A) (table : List (List A)) (b : A) (t es : List A) → IsFrobeniusTable ops f n table → All (IsRoot ops f) es → IsSamePolynomial ops t (trace_polynomial ops b n table)
       → All (IsToldBy ops t (λ e. nat_eq (bits_of (value_at ops t e)) 1)) es
   told_of_traces f table b t es frobenius roots same = λ i d lt.
       told_by_bits ops bits_of n numbered t (get_or es i d)
@@ -103,7 +103,7 @@ module _ {A : Type 0} (ops : Ops A) (ring : IsRing ops) (bits_of : A → ℕ) (n
       by_trace e is (inr one) = inr (is ∙ one)
 
   module _ (f : List A) (table : List (List A)) (j : ℕ) (b : A) (t es : List A) (frobenius : IsFrobeniusTable ops f n table) (roots : All (IsRoot ops f) es)
-      (same : Same ops t (trace_polynomial ops b n table)) (is : bits_of b ≡ 2 ^ j) (alike : IsAlike ops bits_of n j es) where
+      (same : IsSamePolynomial ops t (trace_polynomial ops b n table)) (is : bits_of b ≡ 2 ^ j) (alike : IsAlike ops bits_of n j es) where
     -- the parts of a set of roots by it
     pub alike_in_part_of : IsAlike ops bits_of n (j + 1) (part_of ops bits_of t es)
     alike_in_part_of =
@@ -114,7 +114,7 @@ module _ {A : Type 0} (ops : Ops A) (ring : IsRing ops) (bits_of : A → ℕ) (n
         alike_in_others ops bits_of n n numbered j b is t (λ e. nat_eq (bits_of (value_at ops t e)) 1) es (traced_of ops ring f n table b t es frobenius roots same) (told_of_traces f table b t es frobenius roots same) alike
 
     -- a set that it doesn't part: the polynomial is one element alone
-    pub alike_unparted : (c : A) → Same ops t (c ∷ []) → IsAlike ops bits_of n (j + 1) es
+    pub alike_unparted : (c : A) → IsSamePolynomial ops t (c ∷ []) → IsAlike ops bits_of n (j + 1) es
     alike_unparted c constant =
         alike_more ops bits_of n n numbered j b c es is
         (λ i d lt. sym (traced_of ops ring f n table b t es frobenius roots same i d lt) ∙ value_at-same ops ring t (c ∷ []) (get_or es i d) constant ∙ value_at-constant ops ring c (get_or es i d))

@@ -3,7 +3,7 @@ use Rattle.std.proofs.Common.{◌≡◌, Bool, true, false, not, cond, List, [],
 use Rattle.std.specs.Prelude.{filter}
 use Rattle.field_rules.specs.Ops.{Ops, IsRing, power}
 use Rattle.sketch_rules.specs.PowerSums.{power_sum}
-use Rattle.poly_rules.specs.Polynomials.{Same, sum_of, product_of}
+use Rattle.poly_rules.specs.Polynomials.{IsSamePolynomial, sum_of, product_of}
 use Rattle.poly_rules.specs.Roots.{with_roots}
 use Rattle.field_laws.proofs.RingFacts.{one_times}
 use Rattle.poly_laws.proofs.Sums.{same_along, scaled_one}
@@ -11,7 +11,7 @@ use Rattle.poly_laws.proofs.Products.{product_same_r, product_assoc, product_com
 
 module _ {A : Type 0} (ops : Ops A) (ring : IsRing ops) where
   -- the products of the factors of the two parts give that of the whole
-  pub with_roots-parts : (p : A → Bool) (es : List A) → Same ops (product_of ops (with_roots ops (filter p es)) (with_roots ops (filter (λ e. not (p e)) es))) (with_roots ops es)
+  pub with_roots-parts : (p : A → Bool) (es : List A) → IsSamePolynomial ops (product_of ops (with_roots ops (filter p es)) (with_roots ops (filter (λ e. not (p e)) es))) (with_roots ops es)
   unfolding with_roots
   with_roots-parts p [] = same_along ops (product_constant ops ring ops.one (ops.one ∷ [])) (scaled_one ops ring (ops.one ∷ []))
   with_roots-parts p (e ∷ es) = by_test (p e) (with_roots-parts p es)
@@ -25,8 +25,8 @@ module _ {A : Type 0} (ops : Ops A) (ring : IsRing ops) where
       factor : List A
       factor = e ∷ ops.one ∷ []
 
-      by_test : (b : Bool) → Same ops (product_of ops (with_roots ops part) (with_roots ops others)) (with_roots ops es)
-          → Same ops (product_of ops (with_roots ops (cond b (e ∷ part) part)) (with_roots ops (cond (not b) (e ∷ others) others))) (product_of ops factor (with_roots ops es))
+      by_test : (b : Bool) → IsSamePolynomial ops (product_of ops (with_roots ops part) (with_roots ops others)) (with_roots ops es)
+          → IsSamePolynomial ops (product_of ops (with_roots ops (cond b (e ∷ part) part)) (with_roots ops (cond (not b) (e ∷ others) others))) (product_of ops factor (with_roots ops es))
       by_test true rest =
           same_along ops (product_assoc ops ring factor (with_roots ops part) (with_roots ops others))
           (product_same_r ops ring factor rest)

@@ -13,13 +13,13 @@ use Rattle.field_rules.specs.Ops.{Ops, IsRing, power}
 use Rattle.field_rules.specs.Fields.{dot_of}
 use Rattle.field_rules.specs.Numbered.{IsNumbered}
 use Rattle.field_rules.specs.Lists.{AreDistinct}
-use Rattle.sketch_rules.specs.PowerSums.{power_sum, every_sum}
+use Rattle.sketch_rules.specs.PowerSums.{power_sum, power_sums}
 use Rattle.poly_rules.specs.Polynomials.{coefficient, value_at, sum_of}
 use Rattle.field_laws.proofs.RingFacts.{zero_plus, times_zero, zero_times, plus_again}
 use Rattle.field_laws.proofs.Weights.{weighted}
 use Rattle.poly_laws.proofs.Elements.{plus_turn}
-use Rattle.splitting_laws.specs.Parts.{IsWindows}
-use Rattle.sketch_laws.proofs.EverySums.{length-every_sum, get_or-every_sum}
+use Rattle.splitting_laws.specs.Parts.{IsCorrelation}
+use Rattle.sketch_laws.proofs.EverySums.{length-power_sums, get_or-power_sums}
 use Rattle.splitting_laws.proofs.Windows.{dot_of-window}
 
 module _ {A : Type 0} (ops : Ops A) where
@@ -59,23 +59,23 @@ module _ {A : Type 0} (ops : Ops A) (ring : IsRing ops) where
 
   -- a sum of the part is a dot of t with the sums of the whole
   pub window_of_part : (t : List A) (p : A → Bool) (es : List A) (k n : ℕ) → All (IsToldBy ops t p) es → k + length t ≤ n
-      → dot_of ops t (drop k (every_sum ops es 1 n)) ≡ power_sum ops (suc k) (filter p es)
+      → dot_of ops t (drop k (power_sums ops es 1 n)) ≡ power_sum ops (suc k) (filter p es)
   window_of_part t p es k n told le = dot_of-window ops ring t es k n le ∙ weighted-part t p k es told
 
   -- the list of the sums of the part
   pub sums_of_part : (t : List A) (p : A → Bool) (es : List A) (m n : ℕ) (u : List A) → All (IsToldBy ops t p) es → m + length t ≤ n + 1
-      → IsWindows ops t (every_sum ops es 1 n) m u → u ≡ every_sum ops (filter p es) 1 m
+      → IsCorrelation ops t (power_sums ops es 1 n) m u → u ≡ power_sums ops (filter p es) 1 m
   sums_of_part t p es m n u told le windows =
-      ext_get_or ops.zero u (every_sum ops (filter p es) 1 m) (windows.size ∙ sym (length-every_sum ops (filter p es) 1 m)) same
+      ext_get_or ops.zero u (power_sums ops (filter p es) 1 m) (windows.size ∙ sym (length-power_sums ops (filter p es) 1 m)) same
     where
-      same : (k : ℕ) → k < length u → coefficient ops u k ≡ coefficient ops (every_sum ops (filter p es) 1 m) k
+      same : (k : ℕ) → k < length u → coefficient ops u k ≡ coefficient ops (power_sums ops (filter p es) 1 m) k
       same k lt =
           let within : k < m = omega (arith, windows.size) in
           let next : suc k ≡ 1 + k = omega arith in
           windows.each k within
           ∙ window_of_part t p es k n told (omega arith)
           ∙ ap (λ j. power_sum ops j (filter p es)) next
-          ∙ sym (get_or-every_sum ops (filter p es) 1 m k ops.zero within)
+          ∙ sym (get_or-power_sums ops (filter p es) 1 m k ops.zero within)
 
   -- ---- the other part
 
@@ -99,28 +99,28 @@ module _ {A : Type 0} (ops : Ops A) (ring : IsRing ops) where
       ∙ ring.plus_comm (power_sum ops k (filter p es)) (power_sum ops k es)
 
   -- and the list of its sums is the sum of the two lists
-  pub every_sum-others : (p : A → Bool) (es : List A) (k m : ℕ) → every_sum ops (filter (λ e. not (p e)) es) k m ≡ sum_of ops (every_sum ops es k m) (every_sum ops (filter p es) k m)
-  unfolding every_sum sum_of
-  every_sum-others p es k zero = refl
-  every_sum-others p es k (suc m) =
-      ap (λ z. z ∷ every_sum ops (filter (λ e. not (p e)) es) (k + 1) m) (power_sum-others p k es)
-      ∙ ap (λ z. ops.plus (power_sum ops k es) (power_sum ops k (filter p es)) ∷ z) (every_sum-others p es (k + 1) m)
+  pub power_sums-others : (p : A → Bool) (es : List A) (k m : ℕ) → power_sums ops (filter (λ e. not (p e)) es) k m ≡ sum_of ops (power_sums ops es k m) (power_sums ops (filter p es) k m)
+  unfolding power_sums sum_of
+  power_sums-others p es k zero = refl
+  power_sums-others p es k (suc m) =
+      ap (λ z. z ∷ power_sums ops (filter (λ e. not (p e)) es) (k + 1) m) (power_sum-others p k es)
+      ∙ ap (λ z. ops.plus (power_sum ops k es) (power_sum ops k (filter p es)) ∷ z) (power_sums-others p es (k + 1) m)
 
-  -- the same place by place, from more sums of the whole
+  -- the same index by index, from more sums of the whole
   pub sums_of_others : (p : A → Bool) (es : List A) (m n : ℕ) (v : List A) → m ≤ n → length v ≡ m
-      → ((k : ℕ) → k < m → coefficient ops v k ≡ ops.plus (coefficient ops (every_sum ops es 1 n) k) (coefficient ops (every_sum ops (filter p es) 1 m) k))
-      → v ≡ every_sum ops (filter (λ e. not (p e)) es) 1 m
+      → ((k : ℕ) → k < m → coefficient ops v k ≡ ops.plus (coefficient ops (power_sums ops es 1 n) k) (coefficient ops (power_sums ops (filter p es) 1 m) k))
+      → v ≡ power_sums ops (filter (λ e. not (p e)) es) 1 m
   sums_of_others p es m n v le size each =
-      ext_get_or ops.zero v (every_sum ops (filter (λ e. not (p e)) es) 1 m) (size ∙ sym (length-every_sum ops (filter (λ e. not (p e)) es) 1 m)) same
+      ext_get_or ops.zero v (power_sums ops (filter (λ e. not (p e)) es) 1 m) (size ∙ sym (length-power_sums ops (filter (λ e. not (p e)) es) 1 m)) same
     where
-      same : (k : ℕ) → k < length v → coefficient ops v k ≡ coefficient ops (every_sum ops (filter (λ e. not (p e)) es) 1 m) k
+      same : (k : ℕ) → k < length v → coefficient ops v k ≡ coefficient ops (power_sums ops (filter (λ e. not (p e)) es) 1 m) k
       same k lt =
           let within : k < m = omega arith in
           each k within
-          ∙ ap (λ z. ops.plus z (coefficient ops (every_sum ops (filter p es) 1 m) k)) (get_or-every_sum ops es 1 n k ops.zero (omega arith))
-          ∙ ap (ops.plus (power_sum ops (1 + k) es)) (get_or-every_sum ops (filter p es) 1 m k ops.zero within)
+          ∙ ap (λ z. ops.plus z (coefficient ops (power_sums ops (filter p es) 1 m) k)) (get_or-power_sums ops es 1 n k ops.zero (omega arith))
+          ∙ ap (ops.plus (power_sum ops (1 + k) es)) (get_or-power_sums ops (filter p es) 1 m k ops.zero within)
           ∙ sym (power_sum-others p (1 + k) es)
-          ∙ sym (get_or-every_sum ops (filter (λ e. not (p e)) es) 1 m k ops.zero within)
+          ∙ sym (get_or-power_sums ops (filter (λ e. not (p e)) es) 1 m k ops.zero within)
 
 -- ---- the parts as sets
 

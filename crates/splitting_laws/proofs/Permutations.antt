@@ -9,7 +9,7 @@ use Rattle.std.proofs.lemmas.List.Edits.{swap_is}
 use Rattle.std.proofs.lemmas.List.Sums.{sum_by-cons}
 use Rattle.std.proofs.lemmas.List.Sorted.{IsPermutation-keeps, sum_by-IsPermutation}
 use Rattle.field_rules.specs.Ops.{Ops, IsRing, power}
-use Rattle.sketch_rules.specs.PowerSums.{power_sum, every_sum}
+use Rattle.sketch_rules.specs.PowerSums.{power_sum, power_sums}
 use Rattle.field_laws.proofs.RingFacts.{plus_cancels}
 use Rattle.poly_laws.proofs.Elements.{plus_turn}
 
@@ -51,12 +51,12 @@ module _ {A : Type 0} (ops : Ops A) (ring : IsRing ops) where
       IsPermutation-keeps es (λ z. power_sum ops k z ≡ power_sum ops k es) refl
       (λ z i j lt_i lt_j same. power_sum-swap k z i j lt_i lt_j ∙ same) fs
 
-  pub every_sum-permutation : (k n : ℕ) (es fs : List A) → IsPermutation es fs → every_sum ops fs k n ≡ every_sum ops es k n
-  unfolding every_sum
-  every_sum-permutation k zero es fs moved = refl
-  every_sum-permutation k (suc n) es fs moved =
-      ap (λ z. z ∷ every_sum ops fs (k + 1) n) (power_sum-permutation k es fs moved)
-      ∙ ap (λ z. power_sum ops k es ∷ z) (every_sum-permutation (k + 1) n es fs moved)
+  pub power_sums-permutation : (k n : ℕ) (es fs : List A) → IsPermutation es fs → power_sums ops fs k n ≡ power_sums ops es k n
+  unfolding power_sums
+  power_sums-permutation k zero es fs moved = refl
+  power_sums-permutation k (suc n) es fs moved =
+      ap (λ z. z ∷ power_sums ops fs (k + 1) n) (power_sum-permutation k es fs moved)
+      ∙ ap (λ z. power_sum ops k es ∷ z) (power_sums-permutation (k + 1) n es fs moved)
 
 module _ {A : Type 0} (number : A → ℕ) (same : (a b : A) → number a ≡ number b → a ≡ b) where
   -- ---- the ascending order

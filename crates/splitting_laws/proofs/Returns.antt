@@ -6,7 +6,7 @@ use Rattle.std.proofs.lemmas.List.{get_or_past}
 use Rattle.field_rules.specs.Ops.{Ops, IsRing}
 use Rattle.field_rules.specs.Fields.{IsField}
 use Rattle.field_rules.specs.Lists.{AreDistinct}
-use Rattle.poly_rules.specs.Polynomials.{coefficient, Same, IsTrimmed, IsMonic, value_at, sum_of}
+use Rattle.poly_rules.specs.Polynomials.{coefficient, IsSamePolynomial, IsTrimmed, IsMonic, value_at, sum_of}
 use Rattle.poly_rules.specs.Remainders.{IsFrobeniusTable}
 use Rattle.poly_rules.specs.Roots.{IsRoot, with_roots}
 use Rattle.field_laws.proofs.RingFacts.{zero_plus, plus_cancels}
@@ -21,7 +21,7 @@ use Rattle.splitting_laws.proofs.Traces.{value_at-constant, value_at-frobenius}
 module _ {A : Type 0} (ops : Ops A) (ring : IsRing ops) (bits : ℕ) (field : IsField ops bits) where
   -- a polynomial with no more coefficients than it has distinct roots is zero: with the product of their factors it is
   -- monic of as high a degree as there are roots, so it is that product
-  pub zero_of_roots : (f es : List A) → length f ≤ length es → All (IsRoot ops f) es → AreDistinct es → Same ops f []
+  pub zero_of_roots : (f es : List A) → length f ≤ length es → All (IsRoot ops f) es → AreDistinct es → IsSamePolynomial ops f []
   zero_of_roots f es short roots differ = record {
     each = λ i.
         plus_cancels ops ring (coefficient ops product i) (coefficient ops f i) ops.zero
@@ -54,12 +54,12 @@ module _ {A : Type 0} (ops : Ops A) (ring : IsRing ops) (bits : ℕ) (field : Is
           ∙ zero_plus ops ring (value_at ops product (get_or es i d))
           ∙ with_roots-root ops ring es i d lt
 
-      whole : Same ops (sum_of ops f product) product
+      whole : IsSamePolynomial ops (sum_of ops f product) product
       whole = factors_of_roots ops ring field.apart field.no_zero_divisor (length es) (sum_of ops f product) es sum_monic refl sum_roots differ
 
   -- polynomials with no more coefficients than there are elements where they agree are one
   pub same_of_values : (f g es : List A) → length f ≤ length es → length g ≤ length es → AreDistinct es
-      → All (λ e. value_at ops f e ≡ value_at ops g e) es → Same ops f g
+      → All (λ e. value_at ops f e ≡ value_at ops g e) es → IsSamePolynomial ops f g
   same_of_values f g es short_f short_g differ agree =
       sum_none_same ops ring f g (zero_of_roots (sum_of ops f g) es short roots differ)
     where
@@ -74,7 +74,7 @@ module _ {A : Type 0} (ops : Ops A) (ring : IsRing ops) (bits : ℕ) (field : Is
 
   -- the last row of the table of remainders is its first
   pub frobenius_returns : (f es : List A) (table : List (List A)) → length f ≡ length es + 1 → All (IsRoot ops f) es → AreDistinct es
-      → IsFrobeniusTable ops f bits table → Same ops (get_or table 0 []) (get_or table bits [])
+      → IsFrobeniusTable ops f bits table → IsSamePolynomial ops (get_or table 0 []) (get_or table bits [])
   frobenius_returns f es table size roots differ frobenius =
       same_of_values (get_or table 0 []) (get_or table bits []) es
       (omega (arith, (frobenius.each 0 (omega arith)).below))
@@ -88,7 +88,7 @@ module _ {A : Type 0} (ops : Ops A) (ring : IsRing ops) (bits : ℕ) (field : Is
 
   -- at the product of the factors of a set
   pub frobenius_returns_at : (f es : List A) (table : List (List A)) → f ≡ with_roots ops es → AreDistinct es
-      → IsFrobeniusTable ops f bits table → Same ops (get_or table 0 []) (get_or table bits [])
+      → IsFrobeniusTable ops f bits table → IsSamePolynomial ops (get_or table 0 []) (get_or table bits [])
   frobenius_returns_at f es table is differ frobenius =
       frobenius_returns f es table (ap length is ∙ (with_roots-monic ops ring es).size)
       (λ i d lt. ap (λ z. value_at ops z (get_or es i d)) is ∙ with_roots-root ops ring es i d lt)
@@ -103,6 +103,6 @@ module _ {A : Type 0} (ops : Ops A) (ring : IsRing ops) (bits : ℕ) (field : Is
   -- a polynomial with no more coefficients than there are elements is an element alone, where it has one value at all of
   -- them
   pub constant_of_values : (t es : List A) (c : A) → 1 ≤ length es → length t ≤ length es → AreDistinct es
-      → All (λ e. value_at ops t e ≡ c) es → Same ops t (c ∷ [])
+      → All (λ e. value_at ops t e ≡ c) es → IsSamePolynomial ops t (c ∷ [])
   constant_of_values t es c some short differ one =
       same_of_values t (c ∷ []) es short some differ (λ i d lt. one i d lt ∙ sym (value_at-constant ops ring c (get_or es i d)))

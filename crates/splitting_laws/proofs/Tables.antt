@@ -2,7 +2,7 @@
 use Rattle.std.proofs.Common.{◌≡◌, ℕ, ◌+◌, ◌^◌, ◌≤◌, Bool, not, List, [], length, get_or}
 use Rattle.std.specs.Prelude.{filter}
 use Rattle.field_rules.specs.Ops.{Ops, IsRing}
-use Rattle.poly_rules.specs.Polynomials.{Same, product_of, x_to_the}
+use Rattle.poly_rules.specs.Polynomials.{IsSamePolynomial, product_of, monomial}
 use Rattle.poly_rules.specs.Remainders.{IsRemainder, IsFrobeniusTable}
 use Rattle.poly_rules.specs.Roots.{with_roots}
 use Rattle.poly_laws.specs.Rests.{IsRest}
@@ -13,7 +13,7 @@ use Rattle.splitting_laws.proofs.Factors.{with_roots-parts}
 
 module _ {A : Type 0} (ops : Ops A) (ring : IsRing ops) where
   -- what is left by a product is left by its factor
-  pub rest_by_factor : (f g h a r : List A) → Same ops f (product_of ops h g) → IsRest ops f a r → IsRest ops g a r
+  pub rest_by_factor : (f g h a r : List A) → IsSamePolynomial ops f (product_of ops h g) → IsRest ops f a r → IsRest ops g a r
   rest_by_factor f g h a r divides rest = record {
     quotient = product_of ops rest.quotient h;
     divides =
@@ -24,14 +24,14 @@ module _ {A : Type 0} (ops : Ops A) (ring : IsRing ops) where
   }
 
   -- the remainders of a table's rows by a factor of f are the table of the factor
-  pub table_by_factor : (f g h : List A) (n : ℕ) (table rows : List (List A)) → Same ops f (product_of ops h g) → IsFrobeniusTable ops f n table
+  pub table_by_factor : (f g h : List A) (n : ℕ) (table rows : List (List A)) → IsSamePolynomial ops f (product_of ops h g) → IsFrobeniusTable ops f n table
       → length rows ≡ n + 1 → ((j : ℕ) → j ≤ n → IsRemainder ops (get_or table j []) g (get_or rows j [])) → IsFrobeniusTable ops g n rows
   table_by_factor f g h n table rows divides frobenius size each = record {
     size = size;
     each = λ j le.
-        (let row : IsRemainder ops (x_to_the ops (2 ^ j)) f (get_or table j []) = frobenius.each j le in
-        remainder_along ops ring g (x_to_the ops (2 ^ j)) (get_or table j []) (get_or rows j [])
-        (rest_by_factor f g h (x_to_the ops (2 ^ j)) (get_or table j []) divides (record { quotient = row.quotient; divides = row.divides }))
+        (let row : IsRemainder ops (monomial ops (2 ^ j)) f (get_or table j []) = frobenius.each j le in
+        remainder_along ops ring g (monomial ops (2 ^ j)) (get_or table j []) (get_or rows j [])
+        (rest_by_factor f g h (monomial ops (2 ^ j)) (get_or table j []) divides (record { quotient = row.quotient; divides = row.divides }))
         (each j le));
   }
 

@@ -4,7 +4,7 @@ use Rattle.std.proofs.Common.{◌≡◌, ℕ, zero, suc, ◌+◌, ◌-◌, ◌�
 use Rattle.std.proofs.Math.Nat.{suc-add}
 use Rattle.field_rules.specs.Ops.{Ops, IsRing, power}
 use Rattle.field_rules.specs.Fields.{dot_of}
-use Rattle.sketch_rules.specs.PowerSums.{power_sum, every_sum}
+use Rattle.sketch_rules.specs.PowerSums.{power_sum, power_sums}
 use Rattle.poly_rules.specs.Polynomials.{value_at}
 use Rattle.field_laws.proofs.RingFacts.{times_zero, distributes_left, plus_swap}
 use Rattle.field_laws.proofs.Weights.{weighted, weighted-zero}
@@ -12,30 +12,30 @@ use Rattle.field_laws.proofs.Weights.{weighted, weighted-zero}
 module _ {A : Type 0} (ops : Ops A) where
   -- ---- the list of sums
 
-  -- the sums from a place on
-  drop_first : (es : List A) (k j m : ℕ) → drop j (every_sum ops es k (j + m)) ≡ every_sum ops es (k + j) m
-  unfolding every_sum
+  -- the sums from an index on
+  drop_first : (es : List A) (k j m : ℕ) → drop j (power_sums ops es k (j + m)) ≡ power_sums ops es (k + j) m
+  unfolding power_sums
   drop_first es k zero m =
       let same : 0 + m ≡ m = omega arith in
       let there : k ≡ k + 0 = omega arith in
-      ap (every_sum ops es k) same ∙ ap (λ i. every_sum ops es i m) there
+      ap (power_sums ops es k) same ∙ ap (λ i. power_sums ops es i m) there
   drop_first es k (suc j) m =
       let there : k + 1 + j ≡ k + suc j = omega arith in
-      ap (λ n. drop (suc j) (every_sum ops es k n)) (suc-add j m)
+      ap (λ n. drop (suc j) (power_sums ops es k n)) (suc-add j m)
       ∙ drop_first es (k + 1) j m
-      ∙ ap (λ i. every_sum ops es i m) there
+      ∙ ap (λ i. power_sums ops es i m) there
 
-  pub drop-every_sum : (es : List A) (k j n : ℕ) → j ≤ n → drop j (every_sum ops es k n) ≡ every_sum ops es (k + j) (n - j)
-  drop-every_sum es k j n le =
+  pub drop-power_sums : (es : List A) (k j n : ℕ) → j ≤ n → drop j (power_sums ops es k n) ≡ power_sums ops es (k + j) (n - j)
+  drop-power_sums es k j n le =
       let whole : n ≡ j + (n - j) = omega arith in
-      ap (λ z. drop j (every_sum ops es k z)) whole ∙ drop_first es k j (n - j)
+      ap (λ z. drop j (power_sums ops es k z)) whole ∙ drop_first es k j (n - j)
 
   -- the first of the sums
-  pub take-every_sum : (es : List A) (k m n : ℕ) → m ≤ n → take m (every_sum ops es k n) ≡ every_sum ops es k m
-  unfolding every_sum
-  take-every_sum es k zero n le = refl
-  take-every_sum es k (suc m) zero le = absurd (omega arith)
-  take-every_sum es k (suc m) (suc n) le = ap (λ z. power_sum ops k es ∷ z) (take-every_sum es (k + 1) m n (omega arith))
+  pub take-power_sums : (es : List A) (k m n : ℕ) → m ≤ n → take m (power_sums ops es k n) ≡ power_sums ops es k m
+  unfolding power_sums
+  take-power_sums es k zero n le = refl
+  take-power_sums es k (suc m) zero le = absurd (omega arith)
+  take-power_sums es k (suc m) (suc n) le = ap (λ z. power_sum ops k es ∷ z) (take-power_sums es (k + 1) m n (omega arith))
 
 module _ {A : Type 0} (ops : Ops A) (ring : IsRing ops) where
   -- ---- the sum over the elements
@@ -66,8 +66,8 @@ module _ {A : Type 0} (ops : Ops A) (ring : IsRing ops) where
       ∙ ap (ops.plus (ops.times (ops.times e (w e)) (power ops e k))) (weighted-raised w k es)
 
   -- the dot of f with the sums from s_k on is the sum of f(e) * e ^ k
-  pub dot_of-sums : (f es : List A) (k n : ℕ) → length f ≤ n → dot_of ops f (every_sum ops es k n) ≡ weighted ops ring (value_at ops f) k es
-  unfolding dot_of every_sum value_at
+  pub dot_of-sums : (f es : List A) (k n : ℕ) → length f ≤ n → dot_of ops f (power_sums ops es k n) ≡ weighted ops ring (value_at ops f) k es
+  unfolding dot_of power_sums value_at
   dot_of-sums [] es k n le = sym (weighted-zero ops ring (value_at ops []) k es (λ i d lt. refl))
   dot_of-sums (a ∷ f) es k zero le = absurd (omega arith)
   dot_of-sums (a ∷ f) es k (suc n) le =
@@ -76,10 +76,10 @@ module _ {A : Type 0} (ops : Ops A) (ring : IsRing ops) where
 
   -- the dot of f with s_(k+1), s_(k+2), .. is the sum of e * f(e) * e ^ k
   pub dot_of-window : (f es : List A) (k n : ℕ) → k + length f ≤ n
-      → dot_of ops f (drop k (every_sum ops es 1 n)) ≡ weighted ops ring (λ e. ops.times e (value_at ops f e)) k es
+      → dot_of ops f (drop k (power_sums ops es 1 n)) ≡ weighted ops ring (λ e. ops.times e (value_at ops f e)) k es
   dot_of-window f es k n le =
       let next : 1 + k ≡ suc k = omega arith in
-      ap (dot_of ops f) (drop-every_sum ops es 1 k n (omega arith))
+      ap (dot_of ops f) (drop-power_sums ops es 1 k n (omega arith))
       ∙ dot_of-sums f es (1 + k) (n - k) (omega arith)
       ∙ ap (λ j. weighted ops ring (value_at ops f) j es) next
       ∙ weighted-raised (value_at ops f) k es

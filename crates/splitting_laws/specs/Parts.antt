@@ -12,7 +12,7 @@ part_of ops bits_of t es = filter (λ e. nat_eq (bits_of (value_at ops t e)) 1) 
 abbrev pub others_of : {A : Type 0} → Ops A → (A → ℕ) → List A → List A → List A
 others_of ops bits_of t es = filter (λ e. not (nat_eq (bits_of (value_at ops t e)) 1)) es
 
--- u has, at each place below m, the dot of t with the list s from that place on
-pub record IsWindows {A : Type 0} (ops : Ops A) (t s : List A) (m : ℕ) (u : List A) : Type 0 where
+-- u has, at each index below m, the dot of t with the list s from that index on
+pub record IsCorrelation {A : Type 0} (ops : Ops A) (t s : List A) (m : ℕ) (u : List A) : Type 0 where
   pub size : length u ≡ m
   pub each : (k : ℕ) → k < m → coefficient ops u k ≡ dot_of ops t (drop k s)

@@ -8,7 +8,7 @@ use Rattle.std.proofs.lemmas.Slice.Eq.{bytes_eq-Decides}
 use Rattle.id_rules.specs.Bytes.{are_bytes}
 use Rattle.wire_rules.specs.Commands.{is_command}
 use Rattle.wire_rules.specs.Layout.{checksum}
-use Rattle.wire_rules.specs.Stream.{Header, Whole, header_of, header_fault, by_sum, by_payload, by_header, by_length, front_of}
+use Rattle.wire_rules.specs.Stream.{Header, WholeFrame, header_of, header_fault, front_by_checksum, front_by_payload, front_by_header, front_by_length, front_of}
 use Rattle.wire_rules.specs.declared.frame.Frame.{Frame}
 use Rattle.wire_rules.specs.declared.limits.TheConstants.{PAYLOAD_LIMIT}
 use Rattle.wire_laws.proofs.Taken.{small_byte}
@@ -25,35 +25,35 @@ pub record Judged (magic : List ℕ) (h : Header) (behind : List ℕ) (f : Frame
   pub frame : record { command = h.command; payload = take h.size behind } ≡ f
   pub size : 24 + h.size ≡ n
 
-whole_frame : (f g : Frame) (m n : ℕ) → Whole f m ≡ Whole g n → (f ≡ g) × (m ≡ n)
+whole_frame : (f g : Frame) (m n : ℕ) → WholeFrame f m ≡ WholeFrame g n → (f ≡ g) × (m ≡ n)
 whole_frame f g m n e = (cc, cc)
 
-sum_judged : (same : Bool) (offset : ℕ) (h : Header) (payload : List ℕ) (f : Frame) (n : ℕ) → bytes_eq h.sum (checksum payload) ≡ same → by_sum same offset h payload ≡ Whole f n
+sum_judged : (same : Bool) (offset : ℕ) (h : Header) (payload : List ℕ) (f : Frame) (n : ℕ) → bytes_eq h.sum (checksum payload) ≡ same → front_by_checksum same offset h payload ≡ WholeFrame f n
     → (h.sum ≡ checksum payload) × ((record { command = h.command; payload = payload } ≡ f) × (24 + h.size ≡ n))
-unfolding by_sum
+unfolding front_by_checksum
 sum_judged false offset h payload f n same e = absurd (cc)
 sum_judged true offset h payload f n same e = ((bytes_eq-Decides h.sum (checksum payload)).0 same, whole_frame (record { command = h.command; payload = payload }) f (24 + h.size) n e)
 
 payload_judged : (there : Bool) (offset : ℕ) (magic : List ℕ) (h : Header) (behind : List ℕ) (f : Frame) (n : ℕ) → magic ≡ h.magic → is_command h.command ≡ true → h.size ≤ PAYLOAD_LIMIT
-    → nat_le h.size (length behind) ≡ there → by_payload there offset h behind ≡ Whole f n → Judged magic h behind f n
-unfolding by_payload
+    → nat_le h.size (length behind) ≡ there → front_by_payload there offset h behind ≡ WholeFrame f n → Judged magic h behind f n
+unfolding front_by_payload
 payload_judged false offset magic h behind f n m c w there e = absurd (cc)
 payload_judged true offset magic h behind f n m c w there e =
     let s = sum_judged (bytes_eq h.sum (checksum (take h.size behind))) offset h (take h.size behind) f n refl e in
     record { magic_stands = m; command = c; within = w; enough = leb-true h.size (length behind) there; sum = s.0; frame = s.1.0; size = s.1.1 }
 
 header_judged : (m s w : Bool) (offset : ℕ) (magic : List ℕ) (h : Header) (behind : List ℕ) (f : Frame) (n : ℕ) → bytes_eq magic h.magic ≡ m → is_command h.command ≡ s → nat_le h.size PAYLOAD_LIMIT ≡ w
-    → by_header (header_fault offset h.size m s w) offset h behind ≡ Whole f n → Judged magic h behind f n
-unfolding by_header header_fault
+    → front_by_header (header_fault offset h.size m s w) offset h behind ≡ WholeFrame f n → Judged magic h behind f n
+unfolding front_by_header header_fault
 header_judged false s w offset magic h behind f n em es ew e = absurd (cc)
 header_judged true false w offset magic h behind f n em es ew e = absurd (cc)
 header_judged true true false offset magic h behind f n em es ew e = absurd (cc)
 header_judged true true true offset magic h behind f n em es ew e =
     payload_judged (nat_le h.size (length behind)) offset magic h behind f n ((bytes_eq-Decides magic h.magic).0 em) es (leb-true h.size PAYLOAD_LIMIT ew) refl e
 
-length_judged : (long : Bool) (magic : List ℕ) (offset : ℕ) (bytes : List ℕ) (f : Frame) (n : ℕ) → nat_le 24 (length bytes) ≡ long → by_length long magic offset bytes ≡ Whole f n
+length_judged : (long : Bool) (magic : List ℕ) (offset : ℕ) (bytes : List ℕ) (f : Frame) (n : ℕ) → nat_le 24 (length bytes) ≡ long → front_by_length long magic offset bytes ≡ WholeFrame f n
     → (24 ≤ length bytes) × Judged magic (header_of bytes) (drop 24 bytes) f n
-unfolding by_length
+unfolding front_by_length
 length_judged false magic offset bytes f n long e = absurd (cc)
 length_judged true magic offset bytes f n long e =
     let h = header_of bytes in
@@ -121,13 +121,13 @@ found_by magic bytes f n sound long j = record {
     tail = sym (take-append-drop s (drop 24 bytes)) ∙ ap (λ xs. payload ++ xs) (drop-drop s 24 bytes)
 
 -- a whole front is a sound frame, and the bytes begin with it
-pub front-found : (magic : List ℕ) (offset : ℕ) (bytes : List ℕ) (f : Frame) (n : ℕ) → are_bytes bytes ≡ true → front_of magic offset bytes ≡ Whole f n → IsFirstFrame magic bytes f n
+pub front-found : (magic : List ℕ) (offset : ℕ) (bytes : List ℕ) (f : Frame) (n : ℕ) → are_bytes bytes ≡ true → front_of magic offset bytes ≡ WholeFrame f n → IsFirstFrame magic bytes f n
 front-found magic offset bytes f n sound e =
     let j = length_judged (nat_le 24 (length bytes)) magic offset bytes f n refl e in
     subst (λ g. IsFirstFrame magic bytes g n) j.1.frame (subst (λ k. IsFirstFrame magic bytes (record { command = slice_range bytes 4 16; payload = take (header_of bytes).size (drop 24 bytes) }) k) j.1.size (found_by magic bytes f n sound j.0 j.1))
 
 -- it has at least the bytes of a header, and no more than there are
-pub whole-size : (magic : List ℕ) (offset : ℕ) (bytes : List ℕ) (f : Frame) (n : ℕ) → front_of magic offset bytes ≡ Whole f n → (24 ≤ n) × (n ≤ length bytes)
+pub whole-size : (magic : List ℕ) (offset : ℕ) (bytes : List ℕ) (f : Frame) (n : ℕ) → front_of magic offset bytes ≡ WholeFrame f n → (24 ≤ n) × (n ≤ length bytes)
 whole-size magic offset bytes f n e =
     let j = length_judged (nat_le 24 (length bytes)) magic offset bytes f n refl e in
     let long = j.0 in let enough = j.1.enough in let size = j.1.size in let left = length-drop 24 bytes in

@@ -4,7 +4,7 @@ use Rattle.std.proofs.Common.{◌≡◌, ◌⊎◌, inl, inr, ℕ, ◌-◌, ◌^
 use Rattle.id_rules.specs.Bytes.{are_bytes}
 use Rattle.wire_rules.specs.Layout.{frame_bytes}
 use Rattle.wire_rules.specs.Limits.{IsFrame}
-use Rattle.wire_rules.specs.Stream.{Faulty, Frames, FrameStop, front_of, later}
+use Rattle.wire_rules.specs.Stream.{FaultyFrame, Frames, FrameStop, front_of, later_offset}
 use Rattle.wire_rules.specs.declared.frame.Frame.{Frame}
 use Rattle.wire_rules.specs.declared.frame.FrameFault.{FrameFault}
 use Rattle.stream_laws.specs.FrameReading.{frames_of}
@@ -14,7 +14,7 @@ use Rattle.stream_laws.proofs.Stays.{fault-stays}
 
 -- a rest of bytes is read, from an offset on
 abbrev pub rest_at : ℕ → List ℕ → List Frame → List ℕ → Option FrameFault → Reading Frame FrameFault
-rest_at p bytes fs rest stop = record { items = fs; offset = later p (length bytes - length rest); unread = rest; stop = stop }
+rest_at p bytes fs rest stop = record { items = fs; offset = later_offset p (length bytes - length rest); unread = rest; stop = stop }
 
 -- ---- what is read from the front
 
@@ -74,12 +74,12 @@ module _ (magic p rest q : List ℕ) (fs gs : List Frame) (first : Frames magic 
     partial = second.partial;
   }
 
-  pub stop-join : (offset : ℕ) (fault : FrameFault) → FrameStop magic (later offset (length p - length rest)) (rest ++ q) gs fault → FrameStop magic offset (p ++ q) (fs ++ gs) fault
+  pub stop-join : (offset : ℕ) (fault : FrameFault) → FrameStop magic (later_offset offset (length p - length rest)) (rest ++ q) gs fault → FrameStop magic offset (p ++ q) (fs ++ gs) fault
   stop-join offset fault second = record {
     rest = second.rest;
     whole = join-whole (frame_bytes magic) p rest q second.rest fs gs first.whole second.whole;
     each = join-each IsFrame fs gs first.each second.each;
-    faulty = subst (λ at. front_of magic at second.rest ≡ Faulty fault) (join-offset (frame_bytes magic) p rest q second.rest fs gs first.whole second.whole offset) second.faulty;
+    faulty = subst (λ at. front_of magic at second.rest ≡ FaultyFrame fault) (join-offset (frame_bytes magic) p rest q second.rest fs gs first.whole second.whole offset) second.faulty;
   }
 
 -- a fault is one whatever follows
@@ -88,5 +88,5 @@ stop-stays magic offset p q fs fault s = record {
   rest = s.rest ++ q;
   whole = more-whole (frame_bytes magic) p s.rest q fs s.whole;
   each = s.each;
-  faulty = subst (λ at. front_of magic at (s.rest ++ q) ≡ Faulty fault) (more-offset (frame_bytes magic) p s.rest q fs s.whole offset) (fault-stays magic (later offset (length p - length s.rest)) s.rest q fault s.faulty);
+  faulty = subst (λ at. front_of magic at (s.rest ++ q) ≡ FaultyFrame fault) (more-offset (frame_bytes magic) p s.rest q fs s.whole offset) (fault-stays magic (later_offset offset (length p - length s.rest)) s.rest q fault s.faulty);
 }

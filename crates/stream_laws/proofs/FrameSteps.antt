@@ -4,10 +4,10 @@ use Rattle.std.specs.List.{concat, fold}
 use Rattle.id_rules.specs.Bytes.{are_bytes}
 use Rattle.wire_rules.specs.Layout.{frame_bytes}
 use Rattle.wire_rules.specs.Limits.{IsFrame}
-use Rattle.wire_rules.specs.Stream.{Front, Partial, Whole, Faulty, Frames, FrameStop, front_of, later}
+use Rattle.wire_rules.specs.Stream.{Front, PartialFrame, WholeFrame, FaultyFrame, Frames, FrameStop, front_of, later_offset}
 use Rattle.wire_rules.specs.declared.frame.Frame.{Frame}
 use Rattle.wire_rules.specs.declared.frame.FrameFault.{FrameFault}
-use Rattle.stream_laws.specs.FrameReading.{FrameRead, frames_before, frames_by, frames_of, frames_of_pieces, read_frames, frames_with_more}
+use Rattle.stream_laws.specs.FrameReading.{FrameRead, frames_before, frames_by, frames_of, frames_of_pieces, frames_from, frames_with_more}
 use Rattle.stream_laws.proofs.Fronts.{front_of-frame, frame-length, short_front}
 use Rattle.stream_laws.proofs.Stays.{partial-anywhere, whole-stays}
 use Rattle.stream_laws.proofs.Found.{bytes_cut, front-found, whole-size}
@@ -16,27 +16,27 @@ use Rattle.stream_laws.proofs.Items.{Step, Wait, Take, Halt, Reading, IsStep, Is
 -- ---- a front as a step
 
 abbrev pub step_of : Front → Step Frame FrameFault
-step_of Partial = Wait
-step_of (Whole f n) = Take f n
-step_of (Faulty fault) = Halt fault
+step_of PartialFrame = Wait
+step_of (WholeFrame f n) = Take f n
+step_of (FaultyFrame fault) = Halt fault
 
 abbrev pub frame_step : List ℕ → ℕ → List ℕ → Step Frame FrameFault
 frame_step magic p bytes = step_of (front_of magic p bytes)
 
-is_partial : (x : Front) → step_of x ≡ Wait → x ≡ Partial
-is_partial Partial e = refl
-is_partial (Whole f n) e = absurd (cc)
-is_partial (Faulty fault) e = absurd (cc)
+is_partial : (x : Front) → step_of x ≡ Wait → x ≡ PartialFrame
+is_partial PartialFrame e = refl
+is_partial (WholeFrame f n) e = absurd (cc)
+is_partial (FaultyFrame fault) e = absurd (cc)
 
-is_whole : (x : Front) (f : Frame) (n : ℕ) → step_of x ≡ Take f n → x ≡ Whole f n
-is_whole Partial f n e = absurd (cc)
-is_whole (Whole g m) f n e = let same : g ≡ f = cc in let size : m ≡ n = cc in λ i. Whole (same i) (size i)
-is_whole (Faulty fault) f n e = absurd (cc)
+is_whole : (x : Front) (f : Frame) (n : ℕ) → step_of x ≡ Take f n → x ≡ WholeFrame f n
+is_whole PartialFrame f n e = absurd (cc)
+is_whole (WholeFrame g m) f n e = let same : g ≡ f = cc in let size : m ≡ n = cc in λ i. WholeFrame (same i) (size i)
+is_whole (FaultyFrame fault) f n e = absurd (cc)
 
-is_faulty : (x : Front) (fault : FrameFault) → step_of x ≡ Halt fault → x ≡ Faulty fault
-is_faulty Partial fault e = absurd (cc)
-is_faulty (Whole f n) fault e = absurd (cc)
-is_faulty (Faulty other) fault e = let same : other ≡ fault = cc in ap Faulty same
+is_faulty : (x : Front) (fault : FrameFault) → step_of x ≡ Halt fault → x ≡ FaultyFrame fault
+is_faulty PartialFrame fault e = absurd (cc)
+is_faulty (WholeFrame f n) fault e = absurd (cc)
+is_faulty (FaultyFrame other) fault e = let same : other ≡ fault = cc in ap FaultyFrame same
 
 abbrev pub as_read : Reading Frame FrameFault → FrameRead
 as_read r = record { frames = r.items; offset = r.offset; unread = r.unread; stop = r.stop }
@@ -59,14 +59,14 @@ module _ (magic : List ℕ) where
 
   one_by_one : (x : Front) (p : ℕ) (bytes : List ℕ) (f : ℕ → List ℕ → FrameRead) (g : ℕ → List ℕ → Reading Frame FrameFault) → ((q : ℕ) (rest : List ℕ) → f q rest ≡ as_read (g q rest))
       → frames_by x p bytes f ≡ as_read (reading_by (step_of x) p bytes g)
-  one_by_one Partial p bytes f g same = refl
-  one_by_one (Whole frame n) p bytes f g same = ap (frames_before (frame ∷ [])) (same (later p n) (drop n bytes))
-  one_by_one (Faulty fault) p bytes f g same = refl
+  one_by_one PartialFrame p bytes f g same = refl
+  one_by_one (WholeFrame frame n) p bytes f g same = ap (frames_before (frame ∷ [])) (same (later_offset p n) (drop n bytes))
+  one_by_one (FaultyFrame fault) p bytes f g same = refl
 
-  frames-read : (n p : ℕ) (bytes : List ℕ) → read_frames n magic p bytes ≡ as_read (read_items (frame_step magic) n p bytes)
-  unfolding read_frames read_items
+  frames-read : (n p : ℕ) (bytes : List ℕ) → frames_from n magic p bytes ≡ as_read (read_items (frame_step magic) n p bytes)
+  unfolding frames_from read_items
   frames-read zero p bytes = refl
-  frames-read (suc n) p bytes = one_by_one (front_of magic p bytes) p bytes (read_frames n magic) (read_items (frame_step magic) n) (frames-read n)
+  frames-read (suc n) p bytes = one_by_one (front_of magic p bytes) p bytes (frames_from n magic) (read_items (frame_step magic) n) (frames-read n)
 
   pub frames_of-reading : (p : ℕ) (bytes : List ℕ) → frames_of magic p bytes ≡ as_read (reading (frame_step magic) p bytes)
   frames_of-reading p bytes = frames-read (length bytes) p bytes
@@ -95,7 +95,7 @@ module _ (magic : List ℕ) where
 
   -- pieces after one another are read as one
   pub frames_of-pieces : (p : ℕ) (pieces : List (List ℕ)) → frames_of_pieces magic p pieces ≡ frames_of magic p (concat pieces)
-  unfolding read_frames
+  unfolding frames_from
   frames_of-pieces p pieces = pieces_on p [] pieces
 
   -- ---- what frames and a rest are by the relations
@@ -114,12 +114,12 @@ module _ (magic : List ℕ) where
 
   -- so many frames and an unfinished rest
   pub is_read-frames : (p : ℕ) (bytes : List ℕ) (fs : List Frame) (rest : List ℕ) → Frames magic bytes fs rest
-      → IsFrameRead p bytes (record { items = fs; offset = later p (length bytes - length rest); unread = rest; stop = None })
+      → IsFrameRead p bytes (record { items = fs; offset = later_offset p (length bytes - length rest); unread = rest; stop = None })
   is_read-frames p bytes fs rest frames = record {
     whole = frames.whole;
     each = frames.each;
     offset = refl;
-    ends = ap step_of (partial-anywhere magic 0 (later p (length bytes - length rest)) rest frames.partial.front);
+    ends = ap step_of (partial-anywhere magic 0 (later_offset p (length bytes - length rest)) rest frames.partial.front);
   }
 
   pub frames-is_read : (p : ℕ) (bytes : List ℕ) (r : Reading Frame FrameFault) → IsFrameRead p bytes r → r.stop ≡ None → Frames magic bytes r.items r.unread
@@ -131,12 +131,12 @@ module _ (magic : List ℕ) where
 
   -- so many frames and a fault
   pub is_read-stop : (p : ℕ) (bytes : List ℕ) (fs : List Frame) (fault : FrameFault) → (s : FrameStop magic p bytes fs fault)
-      → IsFrameRead p bytes (record { items = fs; offset = later p (length bytes - length s.rest); unread = s.rest; stop = Some fault })
+      → IsFrameRead p bytes (record { items = fs; offset = later_offset p (length bytes - length s.rest); unread = s.rest; stop = Some fault })
   is_read-stop p bytes fs fault s = record { whole = s.whole; each = s.each; offset = refl; ends = ap step_of s.faulty }
 
   pub stop-is_read : (p : ℕ) (bytes : List ℕ) (r : Reading Frame FrameFault) (fault : FrameFault) → IsFrameRead p bytes r → r.stop ≡ Some fault → FrameStop magic p bytes r.items fault
   stop-is_read p bytes r fault read e =
-      let at = later p (length bytes - length r.unread) in
+      let at = later_offset p (length bytes - length r.unread) in
       record {
         rest = r.unread;
         whole = read.whole;

@@ -6,10 +6,10 @@ use Rattle.std.proofs.lemmas.Bool.{eqb-true, lt-leb, leb-true, leb-false}
 use Rattle.std.proofs.lemmas.List.{length-append, length-take-le}
 use Rattle.std.proofs.lemmas.Nat.{from_le_bytes-to_le_bytes_4}
 use Rattle.sha2.specs.Sha256.{sha256, digest_bytes}
-use Rattle.wire_rules.specs.Commands.{is_command, begins_printable, is_filled}
+use Rattle.wire_rules.specs.Commands.{is_command, has_printable_start, is_filled}
 use Rattle.wire_rules.specs.Layout.{checksum, frame_bytes}
 use Rattle.wire_rules.specs.Limits.{IsFrame}
-use Rattle.wire_rules.specs.Stream.{Header, Partial, Whole, header_of, header_fault, fault_of_header, by_sum, judged_sum, by_payload, by_header, by_length, front_of}
+use Rattle.wire_rules.specs.Stream.{Header, PartialFrame, WholeFrame, header_of, header_fault, fault_of_header, front_by_checksum, front_of_payload, front_by_payload, front_by_header, front_by_length, front_of}
 use Rattle.wire_rules.specs.declared.frame.Frame.{Frame}
 use Rattle.wire_rules.specs.declared.limits.TheConstants.{PAYLOAD_LIMIT}
 use Rattle.wire_laws.proofs.Parts.{take_front, drop_front, bytes_eq-self, both_hold, le_holds}
@@ -24,7 +24,7 @@ size_length n = refl
 
 -- a sound command has 12 bytes
 pub command-length : (c : List ℕ) → is_command c ≡ true → length c ≡ 12
-command-length c h = eqb-true (length c) 12 (both_hold (length c == 12) (begins_printable c) (both_hold ((length c == 12) && begins_printable c) (is_filled c) h).0).0
+command-length c h = eqb-true (length c) 12 (both_hold (length c == 12) (has_printable_start c) (both_hold ((length c == 12) && has_printable_start c) (is_filled c) h).0).0
 
 -- four parts of 4, 12, 4 and 4 bytes, and what stands behind them
 module _ (a b c d rest : List ℕ) (la : length a ≡ 4) (lb : length b ≡ 12) (lc : length c ≡ 4) (ld : length d ≡ 4) where
@@ -80,7 +80,7 @@ told_size : (n : ℕ) → n ≤ PAYLOAD_LIMIT → from_le_bytes w32 (to_le_bytes
 told_size n h = from_le_bytes-to_le_bytes_4 n (omega arith)
 
 -- bytes that begin with the head of a frame: what is left to judge is the payload
-module _ (magic : List ℕ) (four : length magic ≡ 4) (place : ℕ) (f : Frame) (sound : IsFrame f) (rest : List ℕ) where
+module _ (magic : List ℕ) (four : length magic ≡ 4) (offset : ℕ) (f : Frame) (sound : IsFrame f) (rest : List ℕ) where
   header : header_of (head_bytes magic f ++ rest) ≡ header_with magic f
   header =
       header_of_parts magic f.command (to_le_bytes w32 (length f.payload)) (checksum f.payload) rest four (command-length f.command sound.command) (size_length (length f.payload)) (checksum-length f.payload)
@@ -92,47 +92,47 @@ module _ (magic : List ℕ) (four : length magic ≡ 4) (place : ℕ) (f : Frame
   long : nat_le 24 (length (head_bytes magic f ++ rest)) ≡ true
   long = le_holds 24 (length (head_bytes magic f ++ rest)) (subst (λ n. 24 ≤ n) (sym (length_of_parts magic f.command (to_le_bytes w32 (length f.payload)) (checksum f.payload) rest four (command-length f.command sound.command) (size_length (length f.payload)) (checksum-length f.payload))) (omega arith))
 
-  no_fault : fault_of_header magic place (header_with magic f) ≡ None
+  no_fault : fault_of_header magic offset (header_with magic f) ≡ None
   unfolding header_fault
   no_fault =
-      ap (λ b. header_fault place (length f.payload) b (is_command f.command) (nat_le (length f.payload) PAYLOAD_LIMIT)) (bytes_eq-self magic)
-      ∙ (ap (λ b. header_fault place (length f.payload) true b (nat_le (length f.payload) PAYLOAD_LIMIT)) sound.command
-      ∙ ap (λ b. header_fault place (length f.payload) true true b) (le_holds (length f.payload) PAYLOAD_LIMIT sound.within))
+      ap (λ b. header_fault offset (length f.payload) b (is_command f.command) (nat_le (length f.payload) PAYLOAD_LIMIT)) (bytes_eq-self magic)
+      ∙ (ap (λ b. header_fault offset (length f.payload) true b (nat_le (length f.payload) PAYLOAD_LIMIT)) sound.command
+      ∙ ap (λ b. header_fault offset (length f.payload) true true b) (le_holds (length f.payload) PAYLOAD_LIMIT sound.within))
 
-  pub front_of_head : front_of magic place (head_bytes magic f ++ rest) ≡ by_payload (nat_le (length f.payload) (length rest)) place (header_with magic f) rest
-  unfolding by_length by_header
+  pub front_of_head : front_of magic offset (head_bytes magic f ++ rest) ≡ front_by_payload (nat_le (length f.payload) (length rest)) offset (header_with magic f) rest
+  unfolding front_by_length front_by_header
   front_of_head =
-      ap (λ b. by_length b magic place (head_bytes magic f ++ rest)) long
-      ∙ (ap (λ h. by_header (fault_of_header magic place h) place h (drop 24 (head_bytes magic f ++ rest))) header
-      ∙ (ap (λ o. by_header o place (header_with magic f) (drop 24 (head_bytes magic f ++ rest))) no_fault
-      ∙ ap (λ r. by_payload (nat_le (length f.payload) (length r)) place (header_with magic f) r) behind))
+      ap (λ b. front_by_length b magic offset (head_bytes magic f ++ rest)) long
+      ∙ (ap (λ h. front_by_header (fault_of_header magic offset h) offset h (drop 24 (head_bytes magic f ++ rest))) header
+      ∙ (ap (λ o. front_by_header o offset (header_with magic f) (drop 24 (head_bytes magic f ++ rest))) no_fault
+      ∙ ap (λ r. front_by_payload (nat_le (length f.payload) (length r)) offset (header_with magic f) r) behind))
 
 -- a frame in front of a stream is found whole
-pub front_of-frame : (magic : List ℕ) (place : ℕ) (f : Frame) (more : List ℕ) → length magic ≡ 4 → IsFrame f
-    → front_of magic place (frame_bytes magic f ++ more) ≡ Whole f (24 + length f.payload)
-unfolding by_payload by_sum
-front_of-frame magic place f more four sound =
-    ap (front_of magic place) (append_assoc (head_bytes magic f) f.payload more)
-    ∙ (front_of_head magic four place f sound (f.payload ++ more)
-    ∙ (ap (λ b. by_payload b place (header_with magic f) (f.payload ++ more)) enough
-    ∙ (ap (judged_sum place (header_with magic f)) (take_front (length f.payload) f.payload more refl)
-    ∙ ap (λ b. by_sum b place (header_with magic f) f.payload) (bytes_eq-self (checksum f.payload)))))
+pub front_of-frame : (magic : List ℕ) (offset : ℕ) (f : Frame) (more : List ℕ) → length magic ≡ 4 → IsFrame f
+    → front_of magic offset (frame_bytes magic f ++ more) ≡ WholeFrame f (24 + length f.payload)
+unfolding front_by_payload front_by_checksum
+front_of-frame magic offset f more four sound =
+    ap (front_of magic offset) (append_assoc (head_bytes magic f) f.payload more)
+    ∙ (front_of_head magic four offset f sound (f.payload ++ more)
+    ∙ (ap (λ b. front_by_payload b offset (header_with magic f) (f.payload ++ more)) enough
+    ∙ (ap (front_of_payload offset (header_with magic f)) (take_front (length f.payload) f.payload more refl)
+    ∙ ap (λ b. front_by_checksum b offset (header_with magic f) f.payload) (bytes_eq-self (checksum f.payload)))))
   where
     enough : nat_le (length f.payload) (length (f.payload ++ more)) ≡ true
     enough = le_holds (length f.payload) (length (f.payload ++ more)) (subst (λ n. length f.payload ≤ n) (sym (length-append f.payload more)) (omega arith))
 
 -- fewer bytes than a header has are partial
-pub short_front : (magic : List ℕ) (place : ℕ) (bytes : List ℕ) → length bytes < 24 → front_of magic place bytes ≡ Partial
-unfolding by_length
-short_front magic place bytes h = ap (λ b. by_length b magic place bytes) (lt-leb 24 (length bytes) h)
+pub short_front : (magic : List ℕ) (offset : ℕ) (bytes : List ℕ) → length bytes < 24 → front_of magic offset bytes ≡ PartialFrame
+unfolding front_by_length
+short_front magic offset bytes h = ap (λ b. front_by_length b magic offset bytes) (lt-leb 24 (length bytes) h)
 
 -- a head and part of the payload are partial
-cut_front : (magic : List ℕ) (place : ℕ) (f : Frame) (rest : List ℕ) → length magic ≡ 4 → IsFrame f → length rest < length f.payload
-    → front_of magic place (head_bytes magic f ++ rest) ≡ Partial
-unfolding by_payload
-cut_front magic place f rest four sound h =
-    front_of_head magic four place f sound rest
-    ∙ ap (λ b. by_payload b place (header_with magic f) rest) (lt-leb (length f.payload) (length rest) h)
+cut_front : (magic : List ℕ) (offset : ℕ) (f : Frame) (rest : List ℕ) → length magic ≡ 4 → IsFrame f → length rest < length f.payload
+    → front_of magic offset (head_bytes magic f ++ rest) ≡ PartialFrame
+unfolding front_by_payload
+cut_front magic offset f rest four sound h =
+    front_of_head magic four offset f sound rest
+    ∙ ap (λ b. front_by_payload b offset (header_with magic f) rest) (lt-leb (length f.payload) (length rest) h)
 
 -- the head of a frame has 24 bytes
 head-length : (magic : List ℕ) (f : Frame) → length magic ≡ 4 → IsFrame f → length (head_bytes magic f) ≡ 24
@@ -140,13 +140,13 @@ head-length magic f four sound =
     to_24 magic f.command (to_le_bytes w32 (length f.payload)) (checksum f.payload) [] four (command-length f.command sound.command) (size_length (length f.payload)) (checksum-length f.payload)
 
 -- a proper front of a frame is partial: by whether it has fewer bytes than a head
-front_cut : (short : Bool) (magic : List ℕ) (place : ℕ) (f : Frame) (n : ℕ) → nat_le 24 n ≡ short → length magic ≡ 4 → IsFrame f → n < length (frame_bytes magic f)
-    → front_of magic place (take n (frame_bytes magic f)) ≡ Partial
-front_cut false magic place f n few four sound h =
-    short_front magic place (take n (frame_bytes magic f))
+front_cut : (short : Bool) (magic : List ℕ) (offset : ℕ) (f : Frame) (n : ℕ) → nat_le 24 n ≡ short → length magic ≡ 4 → IsFrame f → n < length (frame_bytes magic f)
+    → front_of magic offset (take n (frame_bytes magic f)) ≡ PartialFrame
+front_cut false magic offset f n few four sound h =
+    short_front magic offset (take n (frame_bytes magic f))
     (let bound = leb-false 24 n few in let size = length-take-le n (frame_bytes magic f) (le_of_lt h) in omega arith)
-front_cut true magic place f n enough four sound h =
-    ap (front_of magic place) split ∙ cut_front magic place f (take (n - 24) f.payload) four sound fewer
+front_cut true magic offset f n enough four sound h =
+    ap (front_of magic offset) split ∙ cut_front magic offset f (take (n - 24) f.payload) four sound fewer
   where
     head : length (head_bytes magic f) ≡ 24
     head = head-length magic f four sound
@@ -166,9 +166,9 @@ front_cut true magic place f n enough four sound h =
     fewer : length (take (n - 24) f.payload) < length f.payload
     fewer = let size = length-take-le (n - 24) f.payload part in omega (arith, whole, h, low, size)
 
-pub front_of-cut : (magic : List ℕ) (place : ℕ) (f : Frame) (n : ℕ) → length magic ≡ 4 → IsFrame f → n < length (frame_bytes magic f)
-    → front_of magic place (take n (frame_bytes magic f)) ≡ Partial
-front_of-cut magic place f n four sound h = front_cut (nat_le 24 n) magic place f n refl four sound h
+pub front_of-cut : (magic : List ℕ) (offset : ℕ) (f : Frame) (n : ℕ) → length magic ≡ 4 → IsFrame f → n < length (frame_bytes magic f)
+    → front_of magic offset (take n (frame_bytes magic f)) ≡ PartialFrame
+front_of-cut magic offset f n four sound h = front_cut (nat_le 24 n) magic offset f n refl four sound h
 
 -- how many bytes a frame has
 pub frame-length : (magic : List ℕ) (f : Frame) → length magic ≡ 4 → IsFrame f → length (frame_bytes magic f) ≡ 24 + length f.payload

@@ -4,9 +4,9 @@ use Rattle.std.specs.List.{AllByRecursion}
 use Rattle.std.proofs.lemmas.Grind.{flat_map-append}
 use Rattle.std.proofs.lemmas.List.{length-append, length-drop, drop-append-le}
 use Rattle.id_rules.specs.Bytes.{are_bytes}
-use Rattle.wire_rules.specs.Stream.{later}
+use Rattle.wire_rules.specs.Stream.{later_offset}
 use Rattle.wire_laws.proofs.Parts.{drop_front}
-use Rattle.stream_laws.proofs.Offsets.{later-none, later-later, later-low, later-twice}
+use Rattle.stream_laws.proofs.Offsets.{later_offset-none, later_offset-later_offset, later_offset-low, later_offset-twice}
 
 -- what bytes begin with: no item yet, an item of so many bytes, or a fault
 pub data Step (A F : Type 0) : Type 0 where
@@ -28,7 +28,7 @@ items_before xs r = record { items = xs ++ r.items; offset = r.offset; unread = 
 
 abbrev pub reading_by : {A F : Type 0} → Step A F → ℕ → List ℕ → (ℕ → List ℕ → Reading A F) → Reading A F
 reading_by Wait p bytes next = no_items p bytes None
-reading_by (Take x n) p bytes next = items_before (x ∷ []) (next (later p n) (drop n bytes))
+reading_by (Take x n) p bytes next = items_before (x ∷ []) (next (later_offset p n) (drop n bytes))
 reading_by (Halt f) p bytes next = no_items p bytes (Some f)
 
 -- at most n items
@@ -64,7 +64,7 @@ module _ {A F : Type 0} (step : ℕ → List ℕ → Step A F) (is : IsStep step
   same_next : (s : Step A F) (p : ℕ) (bytes : List ℕ) (f g : ℕ → List ℕ → Reading A F) → step p bytes ≡ s
       → ((q : ℕ) (rest : List ℕ) → length rest < length bytes → f q rest ≡ g q rest) → reading_by s p bytes f ≡ reading_by s p bytes g
   same_next Wait p bytes f g e more = refl
-  same_next (Take x k) p bytes f g e more = ap (items_before (x ∷ [])) (more (later p k) (drop k bytes) (less p bytes x k e))
+  same_next (Take x k) p bytes f g e more = ap (items_before (x ∷ [])) (more (later_offset p k) (drop k bytes) (less p bytes x k e))
   same_next (Halt fault) p bytes f g e more = refl
 
   none_read : (n p : ℕ) → read_items step n p [] ≡ no_items p [] None
@@ -94,7 +94,7 @@ module _ {A F : Type 0} (step : ℕ → List ℕ → Step A F) (is : IsStep step
       → reading_with step (reading_by s p bytes (reading step)) piece ≡ reading step p (bytes ++ piece)
   with_by Wait p bytes piece e more = refl
   with_by (Take x k) p bytes piece e more =
-      ap (items_before (x ∷ [])) (more (later p k) (drop k bytes) (less p bytes x k e) ∙ ap (reading step (later p k)) (sym (drop-append-le k bytes piece (is.size p bytes x k e).1)))
+      ap (items_before (x ∷ [])) (more (later_offset p k) (drop k bytes) (less p bytes x k e) ∙ ap (reading step (later_offset p k)) (sym (drop-append-le k bytes piece (is.size p bytes x k e).1)))
       ∙ sym (reading-next p (bytes ++ piece) ∙ ap (λ s. reading_by s p (bytes ++ piece) (reading step)) (is.stays p bytes piece x k e))
   with_by (Halt fault) p bytes piece e more = refl
 
@@ -116,7 +116,7 @@ last_step (Some fault) = Halt fault
 pub record IsRead {A F : Type 0} (step : ℕ → List ℕ → Step A F) (spell : A → List ℕ) (IsSound : A → Type 0) (p : ℕ) (bytes : List ℕ) (r : Reading A F) : Type 0 where
   pub whole : bytes ≡ flat_map spell r.items ++ r.unread
   pub each : AllByRecursion IsSound r.items
-  pub offset : r.offset ≡ later p (length bytes - length r.unread)
+  pub offset : r.offset ≡ later_offset p (length bytes - length r.unread)
   pub ends : step r.offset r.unread ≡ last_step r.stop
 
 -- what is spelled is found
@@ -128,23 +128,23 @@ abbrev pub IsFound : {A F : Type 0} → (ℕ → List ℕ → Step A F) → (A �
 IsFound {A = A} step spell IsSound = (p : ℕ) (bytes : List ℕ) (x : A) (n : ℕ) → are_bytes bytes ≡ true → step p bytes ≡ Take x n → IsSound x × (bytes ≡ spell x ++ drop n bytes) × (are_bytes (drop n bytes) ≡ true)
 
 module _ {A F : Type 0} (step : ℕ → List ℕ → Step A F) (spell : A → List ℕ) (IsSound : A → Type 0) (is : IsStep step) (takes : IsTaken step spell IsSound) where
-  read_one : (p : ℕ) (x : A) (more : List ℕ) → IsSound x → reading step p (spell x ++ more) ≡ items_before (x ∷ []) (reading step (later p (length (spell x))) more)
+  read_one : (p : ℕ) (x : A) (more : List ℕ) → IsSound x → reading step p (spell x ++ more) ≡ items_before (x ∷ []) (reading step (later_offset p (length (spell x))) more)
   read_one p x more sound =
       let n = length (spell x) in
       reading-next step is p (spell x ++ more)
       ∙ (ap (λ s. reading_by s p (spell x ++ more) (reading step)) (takes p x more sound)
-      ∙ ap (λ rest. items_before (x ∷ []) (reading step (later p n) rest)) (drop_front n (spell x) more refl))
+      ∙ ap (λ rest. items_before (x ∷ []) (reading step (later_offset p n) rest)) (drop_front n (spell x) more refl))
 
   read_all : (xs : List A) (p : ℕ) (rest : List ℕ) → p < 2 ^ 64 → AllByRecursion IsSound xs
-      → reading step p (flat_map spell xs ++ rest) ≡ items_before xs (reading step (later p (length (flat_map spell xs))) rest)
-  read_all [] p rest low each = ap (λ q. reading step q rest) (sym (later-none p low))
+      → reading step p (flat_map spell xs ++ rest) ≡ items_before xs (reading step (later_offset p (length (flat_map spell xs))) rest)
+  read_all [] p rest low each = ap (λ q. reading step q rest) (sym (later_offset-none p low))
   read_all (x ∷ xs) p rest low each =
       let one = length (spell x) in
       let more = length (flat_map spell xs) in
       ap (reading step p) (append_assoc (spell x) (flat_map spell xs) rest)
       ∙ (read_one p x (flat_map spell xs ++ rest) each.0
-      ∙ (ap (items_before (x ∷ [])) (read_all xs (later p one) rest (later-low p one) each.1)
-      ∙ ap (λ q. items_before (x ∷ xs) (reading step q rest)) (later-later p one more ∙ ap (later p) (sym (length-append (spell x) (flat_map spell xs))))))
+      ∙ (ap (items_before (x ∷ [])) (read_all xs (later_offset p one) rest (later_offset-low p one) each.1)
+      ∙ ap (λ q. items_before (x ∷ xs) (reading step q rest)) (later_offset-later_offset p one more ∙ ap (later_offset p) (sym (length-append (spell x) (flat_map spell xs))))))
 
   -- what was read is what is read from the front
   pub read-one : (p : ℕ) (bytes : List ℕ) (r : Reading A F) → p < 2 ^ 64 → IsRead step spell IsSound p bytes r → reading step p bytes ≡ r
@@ -155,9 +155,9 @@ module _ {A F : Type 0} (step : ℕ → List ℕ → Step A F) (spell : A → Li
       ∙ (ap (items_before r.items) (reading-next step is r.offset r.unread ∙ ap (λ s. reading_by s r.offset r.unread (reading step)) read.ends)
       ∙ at_end r)))
     where
-      at : later p (length (flat_map spell r.items)) ≡ r.offset
+      at : later_offset p (length (flat_map spell r.items)) ≡ r.offset
       at =
-          ap (later p) (let all = ap length read.whole ∙ length-append (flat_map spell r.items) r.unread in omega arith)
+          ap (later_offset p) (let all = ap length read.whole ∙ length-append (flat_map spell r.items) r.unread in omega arith)
           ∙ sym read.offset
 
       stop_by : (o : Option F) (q : ℕ) (rest : List ℕ) → reading_by (last_step o) q rest (reading step) ≡ no_items q rest o
@@ -169,27 +169,27 @@ module _ {A F : Type 0} (step : ℕ → List ℕ → Step A F) (spell : A → Li
 
   -- bytes have one reading, also where the first offset isn't one of 64 bits
   pub read-same : (p : ℕ) (bytes : List ℕ) (r s : Reading A F) → IsRead step spell IsSound p bytes r → IsRead step spell IsSound p bytes s → r ≡ s
-  read-same p bytes r s a b = sym (read-one (later p 0) bytes r (later-low p 0) (from_low r a)) ∙ read-one (later p 0) bytes s (later-low p 0) (from_low s b)
+  read-same p bytes r s a b = sym (read-one (later_offset p 0) bytes r (later_offset-low p 0) (from_low r a)) ∙ read-one (later_offset p 0) bytes s (later_offset-low p 0) (from_low s b)
     where
-      from_low : (x : Reading A F) → IsRead step spell IsSound p bytes x → IsRead step spell IsSound (later p 0) bytes x
-      from_low x read = record { whole = read.whole; each = read.each; offset = read.offset ∙ sym (later-twice p (length bytes - length x.unread)); ends = read.ends }
+      from_low : (x : Reading A F) → IsRead step spell IsSound p bytes x → IsRead step spell IsSound (later_offset p 0) bytes x
+      from_low x read = record { whole = read.whole; each = read.each; offset = read.offset ∙ sym (later_offset-twice p (length bytes - length x.unread)); ends = read.ends }
 
 module _ {A F : Type 0} (step : ℕ → List ℕ → Step A F) (spell : A → List ℕ) (IsSound : A → Type 0) (is : IsStep step) (found : IsFound step spell IsSound) where
   read_by : (s : Step A F) (p : ℕ) (bytes : List ℕ) → p < 2 ^ 64 → are_bytes bytes ≡ true → step p bytes ≡ s
       → ((q : ℕ) (rest : List ℕ) → length rest < length bytes → q < 2 ^ 64 → are_bytes rest ≡ true → IsRead step spell IsSound q rest (reading step q rest))
       → IsRead step spell IsSound p bytes (reading_by s p bytes (reading step))
-  read_by Wait p bytes low sound e more = record { whole = refl; each = tt; offset = sym (later-none p low) ∙ ap (later p) (omega arith); ends = e }
-  read_by (Halt fault) p bytes low sound e more = record { whole = refl; each = tt; offset = sym (later-none p low) ∙ ap (later p) (omega arith); ends = e }
+  read_by Wait p bytes low sound e more = record { whole = refl; each = tt; offset = sym (later_offset-none p low) ∙ ap (later_offset p) (omega arith); ends = e }
+  read_by (Halt fault) p bytes low sound e more = record { whole = refl; each = tt; offset = sym (later_offset-none p low) ∙ ap (later_offset p) (omega arith); ends = e }
   read_by (Take x k) p bytes low sound e more =
       let first = found p bytes x k sound e in
       let rest = drop k bytes in
       let size = is.size p bytes x k e in
-      let read = more (later p k) rest (less step is p bytes x k e) (later-low p k) first.2 in
-      let r = reading step (later p k) rest in
+      let read = more (later_offset p k) rest (less step is p bytes x k e) (later_offset-low p k) first.2 in
+      let r = reading step (later_offset p k) rest in
       record {
         whole = first.1 ∙ (ap (λ xs. spell x ++ xs) read.whole ∙ sym (append_assoc (spell x) (flat_map spell r.items) r.unread));
         each = (first.0, read.each);
-        offset = read.offset ∙ (later-later p k (length rest - length r.unread) ∙ ap (later p) (sums k bytes (flat_map spell r.items) r.unread size.1 read.whole));
+        offset = read.offset ∙ (later_offset-later_offset p k (length rest - length r.unread) ∙ ap (later_offset p) (sums k bytes (flat_map spell r.items) r.unread size.1 read.whole));
         ends = read.ends;
       }
     where
@@ -216,10 +216,10 @@ module _ {A : Type 0} (spell : A → List ℕ) (p rest q left : List ℕ) (xs ys
       ∙ ap (λ bytes. bytes ++ left) (sym (flat_map-append spell xs ys)))))
 
   -- the offset behind both
-  pub join-offset : (offset : ℕ) → later (later offset (length p - length rest)) (length (rest ++ q) - length left) ≡ later offset (length (p ++ q) - length left)
+  pub join-offset : (offset : ℕ) → later_offset (later_offset offset (length p - length rest)) (length (rest ++ q) - length left) ≡ later_offset offset (length (p ++ q) - length left)
   join-offset offset =
-      later-later offset (length p - length rest) (length (rest ++ q) - length left)
-      ∙ ap (later offset) (let a = ap length first ∙ length-append (flat_map spell xs) rest in
+      later_offset-later_offset offset (length p - length rest) (length (rest ++ q) - length left)
+      ∙ ap (later_offset offset) (let a = ap length first ∙ length-append (flat_map spell xs) rest in
       let b = ap length second ∙ length-append (flat_map spell ys) left in
       let c = length-append rest q in let d = length-append p q in omega arith)
 
@@ -232,9 +232,9 @@ module _ {A : Type 0} (spell : A → List ℕ) (p rest q : List ℕ) (xs : List 
   pub more-whole : p ++ q ≡ flat_map spell xs ++ (rest ++ q)
   more-whole = ap (λ bytes. bytes ++ q) whole ∙ append_assoc (flat_map spell xs) rest q
 
-  pub more-offset : (offset : ℕ) → later offset (length p - length rest) ≡ later offset (length (p ++ q) - length (rest ++ q))
+  pub more-offset : (offset : ℕ) → later_offset offset (length p - length rest) ≡ later_offset offset (length (p ++ q) - length (rest ++ q))
   more-offset offset =
-      ap (later offset) (let a = ap length whole ∙ length-append (flat_map spell xs) rest in let b = length-append rest q in let c = length-append p q in omega arith)
+      ap (later_offset offset) (let a = ap length whole ∙ length-append (flat_map spell xs) rest in let b = length-append rest q in let c = length-append p q in omega arith)
 
 -- ---- faults
 

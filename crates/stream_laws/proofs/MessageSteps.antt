@@ -1,10 +1,10 @@
 -- Messages are items that are read one after another.
 use Rattle.std.proofs.Common.{◌≡◌, ℕ, zero, suc, ◌+◌, ◌-◌, ◌^◌, ◌<◌, true, List, [], ◌++◌, Some, None, Result, Ok, Err, length, drop, refl, sym, ap, subst, ◌∙◌, arith, lit<}
 use Rattle.id_rules.specs.Bytes.{are_bytes}
-use Rattle.wire_rules.specs.Layout.{frame_bytes, frame_of, spelled}
+use Rattle.wire_rules.specs.Layout.{frame_bytes, frame_of, message_bytes}
 use Rattle.wire_rules.specs.Limits.{IsMessage}
 use Rattle.wire_rules.specs.Reading.{message_of}
-use Rattle.wire_rules.specs.Stream.{AtFrame, AtPayload, Front, Partial, Whole, Faulty, OfFrame, OfPayload, Stop, StopsAt, Stream, StreamFault, StreamRead, behind, front_of, later, read_front, read_message, read_stream, stream_of}
+use Rattle.wire_rules.specs.Stream.{FrameStopAt, PayloadStopAt, Front, PartialFrame, WholeFrame, FaultyFrame, StreamFrameFault, StreamPayloadFault, Stop, IsStopAt, Stream, StreamFault, StreamRead, with_message, front_of, later_offset, stream_by_front, stream_by_message, stream_from, stream_of}
 use Rattle.wire_rules.specs.declared.faults.PayloadFault.{PayloadFault}
 use Rattle.wire_rules.specs.declared.frame.Frame.{Frame}
 use Rattle.wire_rules.specs.declared.message.Message.{Message}
@@ -20,12 +20,12 @@ use Rattle.stream_laws.proofs.Items.{Step, Wait, Take, Halt, Reading, IsStep, Is
 
 abbrev pub by_payload : Result Message PayloadFault → ℕ → Step Message StreamFault
 by_payload (Ok m) n = Take m n
-by_payload (Err fault) n = Halt (OfPayload fault)
+by_payload (Err fault) n = Halt (StreamPayloadFault fault)
 
 abbrev pub step_of : Front → Step Message StreamFault
-step_of Partial = Wait
-step_of (Whole f n) = by_payload (message_of f) n
-step_of (Faulty fault) = Halt (OfFrame fault)
+step_of PartialFrame = Wait
+step_of (WholeFrame f n) = by_payload (message_of f) n
+step_of (FaultyFrame fault) = Halt (StreamFrameFault fault)
 
 abbrev pub message_step : List ℕ → ℕ → List ℕ → Step Message StreamFault
 message_step magic p bytes = step_of (front_of magic p bytes)
@@ -38,38 +38,38 @@ payload_take : (r : Result Message PayloadFault) (k n : ℕ) (m : Message) → b
 payload_take (Ok x) k n m e = let same : x ≡ m = cc in let size : k ≡ n = cc in (ap (λ y. Ok y) same, size)
 payload_take (Err fault) k n m e = absurd (cc)
 
-is_partial : (x : Front) → step_of x ≡ Wait → x ≡ Partial
-is_partial Partial e = refl
-is_partial (Whole f n) e = absurd (payload_wait (message_of f) n e)
-is_partial (Faulty fault) e = absurd (cc)
+is_partial : (x : Front) → step_of x ≡ Wait → x ≡ PartialFrame
+is_partial PartialFrame e = refl
+is_partial (WholeFrame f n) e = absurd (payload_wait (message_of f) n e)
+is_partial (FaultyFrame fault) e = absurd (cc)
 
 -- a message is a whole frame's
-is_message : (x : Front) (m : Message) (n : ℕ) → step_of x ≡ Take m n → (f : Frame) × (x ≡ Whole f n) × (message_of f ≡ Ok m)
-is_message Partial m n e = absurd (cc)
-is_message (Whole f k) m n e = let take = payload_take (message_of f) k n m e in (f, ap (Whole f) take.1, take.0)
-is_message (Faulty fault) m n e = absurd (cc)
+is_message : (x : Front) (m : Message) (n : ℕ) → step_of x ≡ Take m n → (f : Frame) × (x ≡ WholeFrame f n) × (message_of f ≡ Ok m)
+is_message PartialFrame m n e = absurd (cc)
+is_message (WholeFrame f k) m n e = let take = payload_take (message_of f) k n m e in (f, ap (WholeFrame f) take.1, take.0)
+is_message (FaultyFrame fault) m n e = absurd (cc)
 
-payload_halt : (magic : List ℕ) (p : ℕ) (bytes : List ℕ) (f : Frame) (n : ℕ) (r : Result Message PayloadFault) (fault : StreamFault) → front_of magic p bytes ≡ Whole f n → message_of f ≡ r
-    → by_payload r n ≡ Halt fault → StopsAt magic p bytes fault
+payload_halt : (magic : List ℕ) (p : ℕ) (bytes : List ℕ) (f : Frame) (n : ℕ) (r : Result Message PayloadFault) (fault : StreamFault) → front_of magic p bytes ≡ WholeFrame f n → message_of f ≡ r
+    → by_payload r n ≡ Halt fault → IsStopAt magic p bytes fault
 payload_halt magic p bytes f n (Ok m) fault front e halt = absurd (cc)
-payload_halt magic p bytes f n (Err x) fault front e halt = let same : OfPayload x ≡ fault = cc in subst (StopsAt magic p bytes) same (AtPayload f n x front e)
+payload_halt magic p bytes f n (Err x) fault front e halt = let same : StreamPayloadFault x ≡ fault = cc in subst (IsStopAt magic p bytes) same (PayloadStopAt f n x front e)
 
-stops_by : (magic : List ℕ) (p : ℕ) (bytes : List ℕ) (x : Front) (fault : StreamFault) → front_of magic p bytes ≡ x → step_of x ≡ Halt fault → StopsAt magic p bytes fault
-stops_by magic p bytes Partial fault front halt = absurd (cc)
-stops_by magic p bytes (Whole f n) fault front halt = payload_halt magic p bytes f n (message_of f) fault front refl halt
-stops_by magic p bytes (Faulty x) fault front halt = let same : OfFrame x ≡ fault = cc in subst (StopsAt magic p bytes) same (AtFrame x front)
+stops_by : (magic : List ℕ) (p : ℕ) (bytes : List ℕ) (x : Front) (fault : StreamFault) → front_of magic p bytes ≡ x → step_of x ≡ Halt fault → IsStopAt magic p bytes fault
+stops_by magic p bytes PartialFrame fault front halt = absurd (cc)
+stops_by magic p bytes (WholeFrame f n) fault front halt = payload_halt magic p bytes f n (message_of f) fault front refl halt
+stops_by magic p bytes (FaultyFrame x) fault front halt = let same : StreamFrameFault x ≡ fault = cc in subst (IsStopAt magic p bytes) same (FrameStopAt x front)
 
-halts : (magic : List ℕ) (p : ℕ) (bytes : List ℕ) (fault : StreamFault) → StopsAt magic p bytes fault → message_step magic p bytes ≡ Halt fault
-halts magic p bytes (OfFrame fault) (AtFrame stop front) = ap step_of front
-halts magic p bytes (OfPayload fault) (AtPayload f n stop front e) = ap step_of front ∙ ap (λ r. by_payload r n) e
+halts : (magic : List ℕ) (p : ℕ) (bytes : List ℕ) (fault : StreamFault) → IsStopAt magic p bytes fault → message_step magic p bytes ≡ Halt fault
+halts magic p bytes (StreamFrameFault fault) (FrameStopAt stop front) = ap step_of front
+halts magic p bytes (StreamPayloadFault fault) (PayloadStopAt f n stop front e) = ap step_of front ∙ ap (λ r. by_payload r n) e
 
 abbrev pub as_read : Reading Message StreamFault → StreamRead
-as_read r = record { messages = r.items; place = r.offset; rest = r.unread; stop = r.stop }
+as_read r = record { messages = r.items; offset = r.offset; rest = r.unread; stop = r.stop }
 
 -- a fault is one whatever follows
-pub stops-stay : (magic : List ℕ) (p : ℕ) (bytes more : List ℕ) (fault : StreamFault) → StopsAt magic p bytes fault → StopsAt magic p (bytes ++ more) fault
-stops-stay magic p bytes more (OfFrame fault) (AtFrame stop front) = AtFrame stop (fault-stays magic p bytes more stop front)
-stops-stay magic p bytes more (OfPayload fault) (AtPayload f n stop front e) = AtPayload f n stop (whole-stays magic p bytes more f n front) e
+pub stops-stay : (magic : List ℕ) (p : ℕ) (bytes more : List ℕ) (fault : StreamFault) → IsStopAt magic p bytes fault → IsStopAt magic p (bytes ++ more) fault
+stops-stay magic p bytes more (StreamFrameFault fault) (FrameStopAt stop front) = FrameStopAt stop (fault-stays magic p bytes more stop front)
+stops-stay magic p bytes more (StreamPayloadFault fault) (PayloadStopAt f n stop front e) = PayloadStopAt f n stop (whole-stays magic p bytes more f n front) e
 
 module _ (magic : List ℕ) where
   message-steps : IsStep (message_step magic)
@@ -79,7 +79,7 @@ module _ (magic : List ℕ) where
     stays = λ p bytes more m n e. let is = is_message (front_of magic p bytes) m n e in ap step_of (whole-stays magic p bytes more is.0 n is.1) ∙ ap (λ r. by_payload r n) is.2;
   }
 
-  message-taken : length magic ≡ 4 → IsTaken (message_step magic) (spelled magic) IsMessage
+  message-taken : length magic ≡ 4 → IsTaken (message_step magic) (message_bytes magic) IsMessage
   message-taken four p m more sent =
       let f = frame_of m in
       let sound = frame_of-sound m sent in
@@ -87,7 +87,7 @@ module _ (magic : List ℕ) where
       ∙ (ap (λ r. by_payload r (24 + length f.payload)) (message_of-frame_of m sent)
       ∙ ap (Take m) (sym (frame-length magic f four sound)))
 
-  message-found : IsFound (message_step magic) (spelled magic) IsMessage
+  message-found : IsFound (message_step magic) (message_bytes magic) IsMessage
   message-found p bytes m n sound e =
       let is = is_message (front_of magic p bytes) m n e in
       let first = front-found magic p bytes is.0 n sound is.1 in
@@ -97,22 +97,22 @@ module _ (magic : List ℕ) where
   -- ---- a stream read from its front
 
   one_message : (r : Result Message PayloadFault) (n p : ℕ) (bytes : List ℕ) (f : ℕ → List ℕ → StreamRead) (g : ℕ → List ℕ → Reading Message StreamFault) → ((q : ℕ) (rest : List ℕ) → f q rest ≡ as_read (g q rest))
-      → read_message r n p bytes f ≡ as_read (reading_by (by_payload r n) p bytes g)
-  unfolding read_message
-  one_message (Ok m) n p bytes f g same = ap (behind m) (same (later p n) (drop n bytes))
+      → stream_by_message r n p bytes f ≡ as_read (reading_by (by_payload r n) p bytes g)
+  unfolding stream_by_message
+  one_message (Ok m) n p bytes f g same = ap (with_message m) (same (later_offset p n) (drop n bytes))
   one_message (Err fault) n p bytes f g same = refl
 
   one_front : (x : Front) (p : ℕ) (bytes : List ℕ) (f : ℕ → List ℕ → StreamRead) (g : ℕ → List ℕ → Reading Message StreamFault) → ((q : ℕ) (rest : List ℕ) → f q rest ≡ as_read (g q rest))
-      → read_front x p bytes f ≡ as_read (reading_by (step_of x) p bytes g)
-  unfolding read_front
-  one_front Partial p bytes f g same = refl
-  one_front (Whole frame n) p bytes f g same = one_message (message_of frame) n p bytes f g same
-  one_front (Faulty fault) p bytes f g same = refl
+      → stream_by_front x p bytes f ≡ as_read (reading_by (step_of x) p bytes g)
+  unfolding stream_by_front
+  one_front PartialFrame p bytes f g same = refl
+  one_front (WholeFrame frame n) p bytes f g same = one_message (message_of frame) n p bytes f g same
+  one_front (FaultyFrame fault) p bytes f g same = refl
 
-  stream-read : (n p : ℕ) (bytes : List ℕ) → read_stream n magic p bytes ≡ as_read (read_items (message_step magic) n p bytes)
-  unfolding read_stream read_items
+  stream-read : (n p : ℕ) (bytes : List ℕ) → stream_from n magic p bytes ≡ as_read (read_items (message_step magic) n p bytes)
+  unfolding stream_from read_items
   stream-read zero p bytes = refl
-  stream-read (suc n) p bytes = one_front (front_of magic p bytes) p bytes (read_stream n magic) (read_items (message_step magic) n) (stream-read n)
+  stream-read (suc n) p bytes = one_front (front_of magic p bytes) p bytes (stream_from n magic) (read_items (message_step magic) n) (stream-read n)
 
   pub stream_of-reading : (bytes : List ℕ) → stream_of magic bytes ≡ as_read (reading (message_step magic) 0 bytes)
   stream_of-reading bytes = stream-read (length bytes) 0 bytes
@@ -120,24 +120,24 @@ module _ (magic : List ℕ) where
   -- ---- what messages and a rest are by the relations
 
   abbrev pub IsStreamRead : ℕ → List ℕ → Reading Message StreamFault → Type 0
-  IsStreamRead p bytes r = IsRead (message_step magic) (spelled magic) IsMessage p bytes r
+  IsStreamRead p bytes r = IsRead (message_step magic) (message_bytes magic) IsMessage p bytes r
 
   pub is_read-one : length magic ≡ 4 → (p : ℕ) (bytes : List ℕ) (r : Reading Message StreamFault) → p < 2 ^ 64 → IsStreamRead p bytes r → reading (message_step magic) p bytes ≡ r
-  is_read-one four = read-one (message_step magic) (spelled magic) IsMessage message-steps (message-taken four)
+  is_read-one four = read-one (message_step magic) (message_bytes magic) IsMessage message-steps (message-taken four)
 
   pub is_read-same : length magic ≡ 4 → (p : ℕ) (bytes : List ℕ) (r s : Reading Message StreamFault) → IsStreamRead p bytes r → IsStreamRead p bytes s → r ≡ s
-  is_read-same four = read-same (message_step magic) (spelled magic) IsMessage message-steps (message-taken four)
+  is_read-same four = read-same (message_step magic) (message_bytes magic) IsMessage message-steps (message-taken four)
 
   pub is_read-all : (p : ℕ) (bytes : List ℕ) → p < 2 ^ 64 → are_bytes bytes ≡ true → IsStreamRead p bytes (reading (message_step magic) p bytes)
-  is_read-all = read-all (message_step magic) (spelled magic) IsMessage message-steps message-found
+  is_read-all = read-all (message_step magic) (message_bytes magic) IsMessage message-steps message-found
 
   pub is_read-stream : (p : ℕ) (bytes : List ℕ) (ms : List Message) (rest : List ℕ) → Stream magic bytes ms rest
-      → IsStreamRead p bytes (record { items = ms; offset = later p (length bytes - length rest); unread = rest; stop = None })
+      → IsStreamRead p bytes (record { items = ms; offset = later_offset p (length bytes - length rest); unread = rest; stop = None })
   is_read-stream p bytes ms rest stream = record {
     whole = stream.whole;
     each = stream.each;
     offset = refl;
-    ends = ap step_of (partial-anywhere magic 0 (later p (length bytes - length rest)) rest stream.partial.front);
+    ends = ap step_of (partial-anywhere magic 0 (later_offset p (length bytes - length rest)) rest stream.partial.front);
   }
 
   pub stream-is_read : (p : ℕ) (bytes : List ℕ) (r : Reading Message StreamFault) → IsStreamRead p bytes r → r.stop ≡ None → Stream magic bytes r.items r.unread
@@ -148,12 +148,12 @@ module _ (magic : List ℕ) where
   }
 
   pub is_read-stop : (p : ℕ) (bytes : List ℕ) (ms : List Message) (fault : StreamFault) → (s : Stop magic p bytes ms fault)
-      → IsStreamRead p bytes (record { items = ms; offset = later p (length bytes - length s.rest); unread = s.rest; stop = Some fault })
-  is_read-stop p bytes ms fault s = record { whole = s.whole; each = s.each; offset = refl; ends = halts magic (later p (length bytes - length s.rest)) s.rest fault s.faulty }
+      → IsStreamRead p bytes (record { items = ms; offset = later_offset p (length bytes - length s.rest); unread = s.rest; stop = Some fault })
+  is_read-stop p bytes ms fault s = record { whole = s.whole; each = s.each; offset = refl; ends = halts magic (later_offset p (length bytes - length s.rest)) s.rest fault s.faulty }
 
   pub stop-is_read : (p : ℕ) (bytes : List ℕ) (r : Reading Message StreamFault) (fault : StreamFault) → IsStreamRead p bytes r → r.stop ≡ Some fault → Stop magic p bytes r.items fault
   stop-is_read p bytes r fault read e =
-      let at = later p (length bytes - length r.unread) in
+      let at = later_offset p (length bytes - length r.unread) in
       record {
         rest = r.unread;
         whole = read.whole;

@@ -4,10 +4,10 @@ use Rattle.std.proofs.Common.{◌≡◌, ◌⊎◌, inl, inr, ℕ, ◌+◌, ◌-
 use Rattle.std.specs.List.{AllByRecursion}
 use Rattle.std.proofs.lemmas.Grind.{flat_map-append}
 use Rattle.id_rules.specs.Bytes.{are_bytes}
-use Rattle.wire_rules.specs.Layout.{frame_bytes, on_wire, spelled}
+use Rattle.wire_rules.specs.Layout.{frame_bytes, wire_bytes, message_bytes}
 use Rattle.wire_rules.specs.Limits.{IsFrame, IsMessage}
 use Rattle.wire_rules.specs.Reading.{message_of}
-use Rattle.wire_rules.specs.Stream.{AtFrame, AtPayload, Frames, FrameStop, OfFrame, OfPayload, Stop, StopsAt, Stream, StreamFault, later, stream_of}
+use Rattle.wire_rules.specs.Stream.{FrameStopAt, PayloadStopAt, Frames, FrameStop, StreamFrameFault, StreamPayloadFault, Stop, IsStopAt, Stream, StreamFault, later_offset, stream_of}
 use Rattle.wire_rules.specs.declared.faults.PayloadFault.{PayloadFault}
 use Rattle.wire_rules.specs.declared.frame.Frame.{Frame}
 use Rattle.wire_rules.specs.declared.frame.FrameFault.{FrameFault}
@@ -20,7 +20,7 @@ use Rattle.stream_laws.proofs.MessageSteps.{stops-stay, message_step, stream_of-
 
 -- a rest of bytes is read, from an offset on
 abbrev rest_at : ℕ → List ℕ → List Message → List ℕ → Option StreamFault → Reading Message StreamFault
-rest_at p bytes ms rest stop = record { items = ms; offset = later p (length bytes - length rest); unread = rest; stop = stop }
+rest_at p bytes ms rest stop = record { items = ms; offset = later_offset p (length bytes - length rest); unread = rest; stop = stop }
 
 -- ---- what is read from the front
 
@@ -80,26 +80,26 @@ module _ (magic : List ℕ) (four : length magic ≡ 4) (bytes : List ℕ) (ms n
 module _ (magic p rest q : List ℕ) (ms ns : List Message) (first : Stream magic p ms rest) where
   pub stream-join : (left : List ℕ) → Stream magic (rest ++ q) ns left → Stream magic (p ++ q) (ms ++ ns) left
   stream-join left second = record {
-    whole = join-whole (spelled magic) p rest q left ms ns first.whole second.whole;
+    whole = join-whole (message_bytes magic) p rest q left ms ns first.whole second.whole;
     each = join-each IsMessage ms ns first.each second.each;
     partial = second.partial;
   }
 
-  pub stop-join : (offset : ℕ) (fault : StreamFault) → Stop magic (later offset (length p - length rest)) (rest ++ q) ns fault → Stop magic offset (p ++ q) (ms ++ ns) fault
+  pub stop-join : (offset : ℕ) (fault : StreamFault) → Stop magic (later_offset offset (length p - length rest)) (rest ++ q) ns fault → Stop magic offset (p ++ q) (ms ++ ns) fault
   stop-join offset fault second = record {
     rest = second.rest;
-    whole = join-whole (spelled magic) p rest q second.rest ms ns first.whole second.whole;
+    whole = join-whole (message_bytes magic) p rest q second.rest ms ns first.whole second.whole;
     each = join-each IsMessage ms ns first.each second.each;
-    faulty = subst (λ at. StopsAt magic at second.rest fault) (join-offset (spelled magic) p rest q second.rest ms ns first.whole second.whole offset) second.faulty;
+    faulty = subst (λ at. IsStopAt magic at second.rest fault) (join-offset (message_bytes magic) p rest q second.rest ms ns first.whole second.whole offset) second.faulty;
   }
 
 -- a fault is one whatever follows
 pub stop-stays : (magic : List ℕ) (offset : ℕ) (p q : List ℕ) (ms : List Message) (fault : StreamFault) → Stop magic offset p ms fault → Stop magic offset (p ++ q) ms fault
 stop-stays magic offset p q ms fault s = record {
   rest = s.rest ++ q;
-  whole = more-whole (spelled magic) p s.rest q ms s.whole;
+  whole = more-whole (message_bytes magic) p s.rest q ms s.whole;
   each = s.each;
-  faulty = subst (λ at. StopsAt magic at (s.rest ++ q) fault) (more-offset (spelled magic) p s.rest q ms s.whole offset) (stops-stay magic (later offset (length p - length s.rest)) s.rest q fault s.faulty);
+  faulty = subst (λ at. IsStopAt magic at (s.rest ++ q) fault) (more-offset (message_bytes magic) p s.rest q ms s.whole offset) (stops-stay magic (later_offset offset (length p - length s.rest)) s.rest q fault s.faulty);
 }
 
 -- ---- out of frames
@@ -108,7 +108,7 @@ cons_parts : {A : Type 0} (x y : A) (xs ys : List A) → x ∷ xs ≡ y ∷ ys �
 cons_parts x y xs ys e = (cc, cc)
 
 -- frames whose payloads are all read are the messages' frames
-all_said : (magic : List ℕ) (fs : List Frame) (ms : List Message) → AllByRecursion IsFrame fs → map message_of fs ≡ map Ok ms → (flat_map (frame_bytes magic) fs ≡ on_wire magic ms) × AllByRecursion IsMessage ms
+all_said : (magic : List ℕ) (fs : List Frame) (ms : List Message) → AllByRecursion IsFrame fs → map message_of fs ≡ map Ok ms → (flat_map (frame_bytes magic) fs ≡ wire_bytes magic ms) × AllByRecursion IsMessage ms
 all_said magic [] [] each e = (refl, tt)
 all_said magic [] (m ∷ ms) each e = absurd (cc)
 all_said magic (f ∷ fs) [] each e = absurd (cc)
@@ -116,7 +116,7 @@ all_said magic (f ∷ fs) (m ∷ ms) each e =
     let parts = cons_parts (message_of f) (Ok m) (map message_of fs) (map Ok ms) e in
     let said = message_of-said f m each.0 parts.0 in
     let more = all_said magic fs ms each.1 parts.1 in
-    (ap (λ g. frame_bytes magic g ++ flat_map (frame_bytes magic) fs) said.frame ∙ ap (λ xs. spelled magic m ++ xs) more.0, (said.sent, more.1))
+    (ap (λ g. frame_bytes magic g ++ flat_map (frame_bytes magic) fs) said.frame ∙ ap (λ xs. message_bytes magic m ++ xs) more.0, (said.sent, more.1))
 
 module _ (magic bytes : List ℕ) (fs : List Frame) (ms : List Message) (read : map message_of fs ≡ map Ok ms) where
   pub frames-stream : (rest : List ℕ) → Frames magic bytes fs rest → Stream magic bytes ms rest
@@ -124,17 +124,17 @@ module _ (magic bytes : List ℕ) (fs : List Frame) (ms : List Message) (read : 
       let said = all_said magic fs ms frames.each read in
       record { whole = frames.whole ∙ ap (λ xs. xs ++ rest) said.0; each = said.1; partial = frames.partial }
 
-  pub frames-stop : (p : ℕ) (fault : FrameFault) → FrameStop magic p bytes fs fault → Stop magic p bytes ms (OfFrame fault)
+  pub frames-stop : (p : ℕ) (fault : FrameFault) → FrameStop magic p bytes fs fault → Stop magic p bytes ms (StreamFrameFault fault)
   frames-stop p fault s =
       let said = all_said magic fs ms s.each read in
-      record { rest = s.rest; whole = s.whole ∙ ap (λ xs. xs ++ s.rest) said.0; each = said.1; faulty = AtFrame fault s.faulty }
+      record { rest = s.rest; whole = s.whole ∙ ap (λ xs. xs ++ s.rest) said.0; each = said.1; faulty = FrameStopAt fault s.faulty }
 
   module _ (p : ℕ) (f : Frame) (gs : List Frame) (fault : PayloadFault) (four : length magic ≡ 4) (first : message_of f ≡ Err fault) where
     each_parts : (xs ys : List Frame) → AllByRecursion IsFrame (xs ++ ys) → AllByRecursion IsFrame xs × AllByRecursion IsFrame ys
     each_parts [] ys h = (tt, h)
     each_parts (x ∷ xs) ys h = let parts = each_parts xs ys h.1 in ((h.0, parts.0), parts.1)
 
-    payload_stop : (rest : List ℕ) → bytes ≡ flat_map (frame_bytes magic) (fs ++ (f ∷ gs)) ++ rest → AllByRecursion IsFrame (fs ++ (f ∷ gs)) → Stop magic p bytes ms (OfPayload fault)
+    payload_stop : (rest : List ℕ) → bytes ≡ flat_map (frame_bytes magic) (fs ++ (f ∷ gs)) ++ rest → AllByRecursion IsFrame (fs ++ (f ∷ gs)) → Stop magic p bytes ms (StreamPayloadFault fault)
     payload_stop rest whole each =
         let parts = each_parts fs (f ∷ gs) each in
         let said = all_said magic fs ms parts.0 read in
@@ -148,12 +148,12 @@ module _ (magic bytes : List ℕ) (fs : List Frame) (ms : List Message) (read : 
               ∙ (append_assoc (flat_map (frame_bytes magic) fs) (frame_bytes magic f ++ flat_map (frame_bytes magic) gs) rest
               ∙ ((λ i. said.0 i ++ append_assoc (frame_bytes magic f) (flat_map (frame_bytes magic) gs) rest i))));
           each = said.1;
-          faulty = AtPayload f (24 + length f.payload) fault (front_of-frame magic (later p (length bytes - length left)) f behind four parts.1.0) first;
+          faulty = PayloadStopAt f (24 + length f.payload) fault (front_of-frame magic (later_offset p (length bytes - length left)) f behind four parts.1.0) first;
         }
 
     -- the first payload fault ends the stream, whatever is behind it
-    pub payload-stop : (rest : List ℕ) → Frames magic bytes (fs ++ (f ∷ gs)) rest → Stop magic p bytes ms (OfPayload fault)
+    pub payload-stop : (rest : List ℕ) → Frames magic bytes (fs ++ (f ∷ gs)) rest → Stop magic p bytes ms (StreamPayloadFault fault)
     payload-stop rest frames = payload_stop rest frames.whole frames.each
 
-    pub payload-first : (other : FrameFault) → FrameStop magic p bytes (fs ++ (f ∷ gs)) other → Stop magic p bytes ms (OfPayload fault)
+    pub payload-first : (other : FrameFault) → FrameStop magic p bytes (fs ++ (f ∷ gs)) other → Stop magic p bytes ms (StreamPayloadFault fault)
     payload-first other s = payload_stop s.rest s.whole s.each

@@ -4,7 +4,7 @@ use Rattle.std.specs.List.{fold}
 use Rattle.std.specs.declared.option.Option.{Option}
 use Rattle.wire_rules.specs.Layout.{frame_bytes}
 use Rattle.wire_rules.specs.Limits.{IsFrame}
-use Rattle.wire_rules.specs.Stream.{Front, Partial, Whole, Faulty, front_of, later}
+use Rattle.wire_rules.specs.Stream.{Front, PartialFrame, WholeFrame, FaultyFrame, front_of, later_offset}
 use Rattle.wire_rules.specs.declared.frame.Frame.{Frame}
 use Rattle.wire_rules.specs.declared.frame.FrameFault.{FrameFault}
 
@@ -24,7 +24,7 @@ pub record FrameRead : Type 0 where
 
 -- frames up to a rest of the bytes, of which the first has this offset
 abbrev pub frames_up_to : List Frame → ℕ → List ℕ → List ℕ → Option FrameFault → FrameRead
-frames_up_to fs offset bytes rest stop = record { frames = fs; offset = later offset (length bytes - length rest); unread = rest; stop = stop }
+frames_up_to fs offset bytes rest stop = record { frames = fs; offset = later_offset offset (length bytes - length rest); unread = rest; stop = stop }
 
 -- none
 abbrev pub no_frames : ℕ → List ℕ → Option FrameFault → FrameRead
@@ -36,18 +36,18 @@ frames_before fs r = record r { frames = fs ++ r.frames }
 
 -- by what the bytes begin with
 abbrev pub frames_by : Front → ℕ → List ℕ → (ℕ → List ℕ → FrameRead) → FrameRead
-frames_by Partial offset bytes next = no_frames offset bytes None
-frames_by (Whole frame size) offset bytes next = frames_before (frame ∷ []) (next (later offset size) (drop size bytes))
-frames_by (Faulty fault) offset bytes next = no_frames offset bytes (Some fault)
+frames_by PartialFrame offset bytes next = no_frames offset bytes None
+frames_by (WholeFrame frame size) offset bytes next = frames_before (frame ∷ []) (next (later_offset offset size) (drop size bytes))
+frames_by (FaultyFrame fault) offset bytes next = no_frames offset bytes (Some fault)
 
 -- at most n frames
-unfoldable pub read_frames : ℕ → List ℕ → ℕ → List ℕ → FrameRead
-read_frames zero magic offset bytes = no_frames offset bytes None
-read_frames (suc n) magic offset bytes = frames_by (front_of magic offset bytes) offset bytes (read_frames n magic)
+unfoldable pub frames_from : ℕ → List ℕ → ℕ → List ℕ → FrameRead
+frames_from zero magic offset bytes = no_frames offset bytes None
+frames_from (suc n) magic offset bytes = frames_by (front_of magic offset bytes) offset bytes (frames_from n magic)
 
 -- all frames, where the first byte has this offset. Each has at least one byte, so there are no more frames than bytes
 abbrev pub frames_of : List ℕ → ℕ → List ℕ → FrameRead
-frames_of magic offset bytes = read_frames (length bytes) magic offset bytes
+frames_of magic offset bytes = frames_from (length bytes) magic offset bytes
 
 -- what was read, with one piece more
 abbrev pub frames_with_more : List ℕ → FrameRead → List ℕ → FrameRead

@@ -9,7 +9,7 @@ ghost use Rattle.id_rules.specs.Bytes.{are_bytes};
 ghost use Rattle.wire_rules.specs.Layout.{frame_bytes};
 ghost use Rattle.wire_rules.specs.Limits.{IsFrame};
 ghost use Rattle.wire_rules.specs.Reading.{message_of};
-ghost use Rattle.wire_rules.specs.Stream.{Frames, FrameStop, OfFrame, OfPayload, Partial, Stop, Stream, StreamFault, Unfinished, Whole, front_of, later, stream_of};
+ghost use Rattle.wire_rules.specs.Stream.{Frames, FrameStop, StreamFrameFault, StreamPayloadFault, PartialFrame, Stop, Stream, StreamFault, IsUnfinished, WholeFrame, front_of, later_offset, stream_of};
 ghost use Rattle.wire_rules.specs.declared.faults.PayloadFault.{PayloadFault};
 ghost use Rattle.wire_rules.specs.declared.frame.Frame.{Frame};
 ghost use Rattle.wire_rules.specs.declared.frame.FrameFault.{FrameFault};
@@ -23,17 +23,17 @@ ghost use Rattle.stream_laws.specs.StreamReading.{IsReadAs, IsStoppedAs};
 /// is the theorem.
 pub fn fronts_are_frames()
     ensures whole { (magic : List ℕ) (offset : ℕ) (f : Frame) (more : List ℕ) → length magic ≡ 4 → IsFrame f
-        → front_of magic offset (frame_bytes magic f ++ more) ≡ Whole f (24 + length f.payload) }
+        → front_of magic offset (frame_bytes magic f ++ more) ≡ WholeFrame f (24 + length f.payload) }
     ensures cut { (magic : List ℕ) (f : Frame) (n : ℕ) → length magic ≡ 4 → IsFrame f → n < length (frame_bytes magic f)
-        → Unfinished magic (take n (frame_bytes magic f)) }
+        → IsUnfinished magic (take n (frame_bytes magic f)) }
     ensures first { (magic : List ℕ) (offset : ℕ) (bytes : List ℕ) (f : Frame) (n : ℕ) → IsTrue (are_bytes bytes)
-        → front_of magic offset bytes ≡ Whole f n → IsFirstFrame magic bytes f n }
-    ensures size { (magic : List ℕ) (offset : ℕ) (bytes : List ℕ) (f : Frame) (n : ℕ) → front_of magic offset bytes ≡ Whole f n
+        → front_of magic offset bytes ≡ WholeFrame f n → IsFirstFrame magic bytes f n }
+    ensures size { (magic : List ℕ) (offset : ℕ) (bytes : List ℕ) (f : Frame) (n : ℕ) → front_of magic offset bytes ≡ WholeFrame f n
         → (24 ≤ n) × (n ≤ length bytes) }
-    ensures stays { (magic : List ℕ) (offset : ℕ) (bytes more : List ℕ) → (front_of magic offset bytes ≡ Partial → ⊥)
+    ensures stays { (magic : List ℕ) (offset : ℕ) (bytes more : List ℕ) → (front_of magic offset bytes ≡ PartialFrame → ⊥)
         → front_of magic offset (bytes ++ more) ≡ front_of magic offset bytes }
-    ensures partial { (magic : List ℕ) (offset other : ℕ) (bytes : List ℕ) → front_of magic offset bytes ≡ Partial → front_of magic other bytes ≡ Partial }
-    ensures offsets { (offset n k : ℕ) → later (later offset n) k ≡ later offset (n + k) }
+    ensures partial { (magic : List ℕ) (offset other : ℕ) (bytes : List ℕ) → front_of magic offset bytes ≡ PartialFrame → front_of magic other bytes ≡ PartialFrame }
+    ensures offsets { (offset n k : ℕ) → later_offset (later_offset offset n) k ≡ later_offset offset (n + k) }
 {}
 
 /// Of frames before an unfinished rest and frames before a fault exactly one applies to bytes, with one value: what
@@ -66,7 +66,7 @@ pub fn pieces_are_read_as_one()
     ensures frames { (magic p q : List ℕ) (fs gs : List Frame) (rest left : List ℕ) → Frames magic p fs rest → Frames magic (rest ++ q) gs left
         → Frames magic (p ++ q) (fs ++ gs) left }
     ensures stop { (magic : List ℕ) (offset : ℕ) (p q : List ℕ) (fs gs : List Frame) (rest : List ℕ) (fault : FrameFault) → Frames magic p fs rest
-        → FrameStop magic (later offset (length p - length rest)) (rest ++ q) gs fault → FrameStop magic offset (p ++ q) (fs ++ gs) fault }
+        → FrameStop magic (later_offset offset (length p - length rest)) (rest ++ q) gs fault → FrameStop magic offset (p ++ q) (fs ++ gs) fault }
     ensures stopped { (magic : List ℕ) (offset : ℕ) (p q : List ℕ) (fs : List Frame) (fault : FrameFault) → FrameStop magic offset p fs fault → FrameStop magic offset (p ++ q) fs fault }
     ensures more { (magic : List ℕ) (offset : ℕ) (bytes piece : List ℕ) → frames_with_more magic (frames_of magic offset bytes) piece ≡ frames_of magic offset (bytes ++ piece) }
     ensures pieces { (magic : List ℕ) (offset : ℕ) (pieces : List (List ℕ)) → frames_of_pieces magic offset pieces ≡ frames_of magic offset (concat pieces) }
@@ -98,7 +98,7 @@ pub fn streams_are_read_as_one()
     ensures stream { (magic p q : List ℕ) (ms ns : List Message) (rest left : List ℕ) → Stream magic p ms rest → Stream magic (rest ++ q) ns left
         → Stream magic (p ++ q) (ms ++ ns) left }
     ensures stop { (magic : List ℕ) (offset : ℕ) (p q : List ℕ) (ms ns : List Message) (rest : List ℕ) (fault : StreamFault) → Stream magic p ms rest
-        → Stop magic (later offset (length p - length rest)) (rest ++ q) ns fault → Stop magic offset (p ++ q) (ms ++ ns) fault }
+        → Stop magic (later_offset offset (length p - length rest)) (rest ++ q) ns fault → Stop magic offset (p ++ q) (ms ++ ns) fault }
     ensures stopped { (magic : List ℕ) (offset : ℕ) (p q : List ℕ) (ms : List Message) (fault : StreamFault) → Stop magic offset p ms fault → Stop magic offset (p ++ q) ms fault }
 {}
 
@@ -109,9 +109,9 @@ pub fn frames_make_streams()
     ensures read { (magic bytes : List ℕ) (fs : List Frame) (ms : List Message) (rest : List ℕ) → map message_of fs ≡ map Ok ms → Frames magic bytes fs rest
         → Stream magic bytes ms rest }
     ensures stop { (magic : List ℕ) (offset : ℕ) (bytes : List ℕ) (fs : List Frame) (ms : List Message) (fault : FrameFault) → map message_of fs ≡ map Ok ms
-        → FrameStop magic offset bytes fs fault → Stop magic offset bytes ms (OfFrame fault) }
+        → FrameStop magic offset bytes fs fault → Stop magic offset bytes ms (StreamFrameFault fault) }
     ensures payload { (magic : List ℕ) (offset : ℕ) (bytes : List ℕ) (fs gs : List Frame) (f : Frame) (ms : List Message) (fault : PayloadFault) (rest : List ℕ)
-        → length magic ≡ 4 → map message_of fs ≡ map Ok ms → message_of f ≡ Err fault → Frames magic bytes (fs ++ (f ∷ gs)) rest → Stop magic offset bytes ms (OfPayload fault) }
+        → length magic ≡ 4 → map message_of fs ≡ map Ok ms → message_of f ≡ Err fault → Frames magic bytes (fs ++ (f ∷ gs)) rest → Stop magic offset bytes ms (StreamPayloadFault fault) }
     ensures earlier { (magic : List ℕ) (offset : ℕ) (bytes : List ℕ) (fs gs : List Frame) (f : Frame) (ms : List Message) (fault : PayloadFault) (other : FrameFault)
-        → length magic ≡ 4 → map message_of fs ≡ map Ok ms → message_of f ≡ Err fault → FrameStop magic offset bytes (fs ++ (f ∷ gs)) other → Stop magic offset bytes ms (OfPayload fault) }
+        → length magic ≡ 4 → map message_of fs ≡ map Ok ms → message_of f ≡ Err fault → FrameStop magic offset bytes (fs ++ (f ∷ gs)) other → Stop magic offset bytes ms (StreamPayloadFault fault) }
 {}

@@ -8,11 +8,11 @@ use Rattle.field_rules.specs.Numbered.{IsNumbered}
 use Rattle.field_rules.specs.Lists.{AreDistinct}
 use Rattle.sketch_rules.specs.PowerSums.{IsAllSums, sketch_by}
 use Rattle.sketch_rules.specs.Sketches.{sketch_at}
-use Rattle.sketch_rules.specs.Answers.{Rises, Answer}
+use Rattle.sketch_rules.specs.Answers.{IsAscending, Answer}
 use Rattle.poly_rules.specs.Polynomials.{coefficient}
 use Rattle.field_laws.proofs.NumberedLists.{same_elements, distinct}
-use Rattle.sketch_laws.proofs.EverySums.{length-sums_from}
-use Rattle.sketch_laws.proofs.Rising.{each_within, AllPairs-from_Rises}
+use Rattle.sketch_laws.proofs.EverySums.{length-odd_power_sums}
+use Rattle.sketch_laws.proofs.Rising.{each_within, AllPairs-from_IsAscending}
 use Rattle.sketch_laws.proofs.SketchNumbers.{sketch_by-numbers}
 use Rattle.trace_roots.specs.Agreeing.{AreAtOddPowers}
 
@@ -40,18 +40,18 @@ module _ {A : Type 0} (ops : Ops A) where
 
 module _ {A : Type 0} (ops : Ops A) (bits_of : A → ℕ) (width : ℕ) (numbered : IsNumbered ops bits_of width) where
   -- elements that rise are nonzero
-  pub nonzero_of_rises : (es : List A) → Rises 1 (2 ^ width) (map bits_of es) → All (λ e. e ≢ ops.zero) es
+  pub nonzero_of_rises : (es : List A) → IsAscending 1 (2 ^ width) (map bits_of es) → All (λ e. e ≢ ops.zero) es
   nonzero_of_rises es rises k d lt same =
       let within : 1 ≤ get_or (map bits_of es) k (bits_of d) = (each_within 1 (2 ^ width) (map bits_of es) rises k (bits_of d) (omega (arith, length-map es bits_of))).0 in
       omega (arith, get_or-map bits_of es k d (bits_of d) lt, ap bits_of same, numbered.zero_bits)
 
   -- and distinct
-  pub distinct_of_rises : (es : List A) → Rises 1 (2 ^ width) (map bits_of es) → AreDistinct es
-  distinct_of_rises es rises = distinct ops bits_of width numbered es (AllPairs-from_Rises 1 (2 ^ width) (map bits_of es) rises)
+  pub distinct_of_rises : (es : List A) → IsAscending 1 (2 ^ width) (map bits_of es) → AreDistinct es
+  distinct_of_rises es rises = distinct ops bits_of width numbered es (AllPairs-from_IsAscending 1 (2 ^ width) (map bits_of es) rises)
 
   module _ (m es sums odd : List A) (c : ℕ) (all : IsAllSums ops m sums) (capacity : c ≡ length sums / 2) where
     -- elements that pass are an answer
-    pub answer_of_sums : length es ≤ c → Rises 1 (2 ^ width) (map bits_of es) → odd ≡ sketch_by ops es c → AreAtOddPowers ops odd sums
+    pub answer_of_sums : length es ≤ c → IsAscending 1 (2 ^ width) (map bits_of es) → odd ≡ sketch_by ops es c → AreAtOddPowers ops odd sums
         → Answer width (map bits_of m) (map bits_of es)
     answer_of_sums few rises is agree = record {
       rises = rises;
@@ -59,7 +59,7 @@ module _ {A : Type 0} (ops : Ops A) (bits_of : A → ℕ) (width : ℕ) (numbere
       sketched =
           ap (sketch_at width (map bits_of es)) (length-map m bits_of ∙ sym size)
           ∙ sym (sketch_by-numbers ops bits_of width numbered es c)
-          ∙ ap (map bits_of) (sym is ∙ same_sums ops m sums odd all (ap length is ∙ length-sums_from ops es 0 c ∙ size) agree);
+          ∙ ap (map bits_of) (sym is ∙ same_sums ops m sums odd all (ap length is ∙ length-odd_power_sums ops es 0 c ∙ size) agree);
     }
       where
         size : c ≡ length m

@@ -7,7 +7,7 @@ use Rattle.field_rules.specs.Numbered.{IsNumbered}
 use Rattle.field_rules.specs.Lists.{AreDistinct}
 use Rattle.sketch_rules.specs.PowerSums.{IsAllSums}
 use Rattle.sketch_rules.specs.Sets.{difference}
-use Rattle.sketch_rules.specs.Sketches.{merged, sketch_at}
+use Rattle.sketch_rules.specs.Sketches.{sketch_sum, sketch_at}
 use Rattle.sketch_rules.specs.Answers.{Answer, answer_at, answer_at-some}
 use Rattle.poly_rules.specs.Recurrences.{IsShortest}
 use Rattle.sketch_laws.proofs.Differences.{difference_answers}
@@ -21,7 +21,7 @@ module _ {A : Type 0} (ops : Ops A) (ring : IsRing ops) (bits_of : A → ℕ) (w
 
   -- the difference of two sets is what their merged sketches answer
   pub differs : (o : Option (List ℕ)) (m xs ys : List ℕ) (c : ℕ) → o ≡ answer_at width m → All (λ e. (0 < e) × (e < 2 ^ width)) xs → All (λ e. (0 < e) × (e < 2 ^ width)) ys
-      → AreDistinct xs → AreDistinct ys → length (difference xs ys) ≤ c → m ≡ merged (sketch_at width xs c) (sketch_at width ys c) → o ≡ Some (difference xs ys)
+      → AreDistinct xs → AreDistinct ys → length (difference xs ys) ≤ c → m ≡ sketch_sum (sketch_at width xs c) (sketch_at width ys c) → o ≡ Some (difference xs ys)
   differs o m xs ys c is in_xs in_ys apart_xs apart_ys few sums =
       is ∙ answer_at-is ops bits_of width ring field numbered m (difference xs ys)
       (subst (λ z. Answer width z (difference xs ys)) (sym sums) (difference_answers width xs ys c in_xs in_ys apart_xs apart_ys few))

@@ -5,7 +5,7 @@ use Rattle.std.specs.List.Sorted.{IsPermutation}
 use Rattle.std.proofs.lemmas.List.Sorted.{IsPermutation-trans, IsPermutation-append}
 use Rattle.std.proofs.lemmas.Nat.{pow_below}
 use Rattle.field_rules.specs.Ops.{Ops, IsRing}
-use Rattle.field_rules.specs.Fields.{IsToldApart}
+use Rattle.field_rules.specs.Fields.{IsSeparatedByTrace}
 use Rattle.field_rules.specs.Numbered.{IsNumbered}
 use Rattle.sketch_rules.specs.PowerSums.{power_sum}
 use Rattle.poly_rules.specs.Polynomials.{value_at}
@@ -13,8 +13,8 @@ use Rattle.field_laws.proofs.RingFacts.{times_zero}
 use Rattle.splitting_laws.specs.Alike.{IsAlike}
 use Rattle.splitting_laws.proofs.Alike.{alike_end, alike_more}
 use Rattle.splitting_laws.proofs.Factors.{power_sum-lone}
-use Rattle.sketch_laws.proofs.EverySums.{get_or-every_sum}
-use Rattle.trace_roots.specs.Parts.{Fits, IsTrace, IsPart}
+use Rattle.sketch_laws.proofs.EverySums.{get_or-power_sums}
+use Rattle.trace_roots.specs.Parts.{HasFittingSizes, IsTrace, IsPart}
 use Rattle.trace_roots.proofs.Parting.{degree_of_set}
 
 -- false is not true
@@ -37,26 +37,26 @@ module _ {A : Type 0} (ops : Ops A) (ring : IsRing ops) (bits_of : A → ℕ) (w
       first_sum =
           is
           ∙ ap (λ z. get_or z 0 x) part.sums_are
-          ∙ get_or-every_sum ops es 1 (2 * length es) 0 x (omega (arith, one))
+          ∙ get_or-power_sums ops es 1 (2 * length es) 0 x (omega (arith, one))
 
   -- at the end of the basis no two members are left
-  pub end_of_basis : ((a b : A) → a ≢ b → IsToldApart ops bits_of width a b) → (place : ℕ) (es f sums : List A) (traces : List (List A)) → Fits ops f sums traces
-      → IsPart ops bits_of width place es f sums traces → place ≡ width → IsAlike ops bits_of width place es → length f ≡ 2
-  end_of_basis separates place es f sums traces fits part end alike =
+  pub end_of_basis : ((a b : A) → a ≢ b → IsSeparatedByTrace ops bits_of width a b) → (exponent : ℕ) (es f sums : List A) (traces : List (List A)) → HasFittingSizes ops f sums traces
+      → IsPart ops bits_of width exponent es f sums traces → exponent ≡ width → IsAlike ops bits_of width exponent es → length f ≡ 2
+  end_of_basis separates exponent es f sums traces fits part end alike =
       let few : length es ≤ 1 = alike_end ops bits_of width separates es part.set.distinct (subst (λ j. IsAlike ops bits_of width j es) end alike) in
       omega (arith, few, degree_of_set ops ring f es part.locator_is, fits.some)
 
   module _ (numbered : IsNumbered ops bits_of width) where
-    -- the power of x that the place stands for
-    pub basis_at : (place : ℕ) → place < width → (b : A) × (bits_of b ≡ 2 ^ place)
-    basis_at place below = numbered.filled (2 ^ place) (pow_below place width below)
+    -- the power of x that has the exponent
+    pub basis_at : (exponent : ℕ) → exponent < width → (b : A) × (bits_of b ≡ 2 ^ exponent)
+    basis_at exponent below = numbered.filled (2 ^ exponent) (pow_below exponent width below)
 
     -- a trace polynomial that is an element alone tells no members apart
-    pub not_apart : (place : ℕ) (es t : List A) → place < width → length t < 2 → IsTrace ops bits_of width place es t → IsAlike ops bits_of width place es → IsAlike ops bits_of width (place + 1) es
+    pub not_apart : (exponent : ℕ) (es t : List A) → exponent < width → length t < 2 → IsTrace ops bits_of width exponent es t → IsAlike ops bits_of width exponent es → IsAlike ops bits_of width (exponent + 1) es
     unfolding value_at
-    not_apart place es t below short trace alike =
-        let b : (b : A) × (bits_of b ≡ 2 ^ place) = basis_at place below in
-        alike_more ops bits_of width width numbered place b.0 (value_at ops t ops.zero) es b.1 (λ i d lt. sym (trace b.0 b.1 i d lt) ∙ one_value t short (get_or es i d)) alike
+    not_apart exponent es t below short trace alike =
+        let b : (b : A) × (bits_of b ≡ 2 ^ exponent) = basis_at exponent below in
+        alike_more ops bits_of width width numbered exponent b.0 (value_at ops t ops.zero) es b.1 (λ i d lt. sym (trace b.0 b.1 i d lt) ∙ one_value t short (get_or es i d)) alike
       where
         one_value : (t : List A) → length t < 2 → (e : A) → value_at ops t e ≡ value_at ops t ops.zero
         one_value [] short e = refl

@@ -8,18 +8,18 @@ use Rattle.std.proofs.lemmas.List.Sorted.{IsPermutation-trans, IsPermutation-app
 use Rattle.field_rules.specs.Ops.{Ops, IsRing}
 use Rattle.field_rules.specs.Fields.{IsField, trace_of}
 use Rattle.field_rules.specs.Numbered.{IsNumbered}
-use Rattle.sketch_rules.specs.PowerSums.{power_sum, every_sum}
-use Rattle.poly_rules.specs.Polynomials.{coefficient, degree, Same, IsTrimmed, value_at}
+use Rattle.sketch_rules.specs.PowerSums.{power_sum, power_sums}
+use Rattle.poly_rules.specs.Polynomials.{coefficient, degree, IsSamePolynomial, IsTrimmed, value_at}
 use Rattle.poly_rules.specs.Recurrences.{IsShortest}
 use Rattle.poly_rules.specs.Roots.{with_roots}
 use Rattle.splitting_laws.specs.Alike.{IsAlike}
-use Rattle.splitting_laws.specs.Parts.{IsWindows, part_of, others_of}
+use Rattle.splitting_laws.specs.Parts.{IsCorrelation, part_of, others_of}
 use Rattle.splitting_laws.proofs.Alike.{alike_in_part, alike_in_others}
 use Rattle.splitting_laws.proofs.Parts.{IsToldBy, told_by_bits, sums_of_part, sums_of_others, power_sum-parts, parts-length, part-differ, part-nonzero, parts-together}
 use Rattle.splitting_laws.proofs.Recurrences.{smaller_part, shortest_within}
 use Rattle.splitting_laws.proofs.Returns.{constant_of_values}
-use Rattle.sketch_laws.proofs.EverySums.{length-every_sum, get_or-every_sum}
-use Rattle.trace_roots.specs.Added.{AreAdded}
+use Rattle.sketch_laws.proofs.EverySums.{length-power_sums, get_or-power_sums}
+use Rattle.trace_roots.specs.Added.{IsItemwiseSum}
 use Rattle.trace_roots.specs.Parts.{IsSet, AreTraces, IsPart, AreSides, IsSmaller, IsSplit}
 use Rattle.trace_roots.proofs.Parting.{degree_of_set}
 
@@ -35,7 +35,7 @@ none_pass p (x ∷ xs) none = by (p x) refl (λ less. none_pass p xs less)
 
 module _ {A : Type 0} (ops : Ops A) where
   -- a polynomial of degree 1 or more is no element alone
-  not_constant : (t : List A) (c : A) → 2 ≤ length t → IsTrimmed ops t → Same ops t (c ∷ []) → ⊥
+  not_constant : (t : List A) (c : A) → 2 ≤ length t → IsTrimmed ops t → IsSamePolynomial ops t (c ∷ []) → ⊥
   not_constant t c long trimmed same =
       trimmed (length t - 1) (omega arith) (same.each (length t - 1) ∙ get_or_past (c ∷ []) (length t - 1) ops.zero (omega arith))
 
@@ -67,18 +67,18 @@ module _ {A : Type 0} (ops : Ops A) (ring : IsRing ops) (bits_of : A → ℕ) (w
         by (inr one) = inr (traced i d lt ∙ one)
 
     -- the sums of those where it is one, and of the others
-    pub inside_is : (inside : List A) → IsWindows ops t sums (length es) inside → inside ≡ every_sum ops passing 1 (length es)
+    pub inside_is : (inside : List A) → IsCorrelation ops t sums (length es) inside → inside ≡ power_sums ops passing 1 (length es)
     inside_is inside windows =
-        sums_of_part ops ring t test es (length es) (2 * length es) inside told (omega (arith, short)) (subst (λ z. IsWindows ops t z (length es) inside) part.sums_are windows)
+        sums_of_part ops ring t test es (length es) (2 * length es) inside told (omega (arith, short)) (subst (λ z. IsCorrelation ops t z (length es) inside) part.sums_are windows)
 
-    pub outside_is : (inside outside : List A) → inside ≡ every_sum ops passing 1 (length es) → length inside ≡ length es → AreAdded ops inside sums outside → outside ≡ every_sum ops failing 1 (length es)
+    pub outside_is : (inside outside : List A) → inside ≡ power_sums ops passing 1 (length es) → length inside ≡ length es → IsItemwiseSum ops inside sums outside → outside ≡ power_sums ops failing 1 (length es)
     outside_is inside outside is size added =
         sums_of_others ops ring test es (length es) (2 * length es) outside (omega arith) (added.size ∙ size)
         (λ k lt.
         added.each k (omega (arith, size))
         ∙ ring.plus_comm (coefficient ops inside k) (coefficient ops sums k)
         ∙ ap (λ z. ops.plus (coefficient ops z k) (coefficient ops inside k)) part.sums_are
-        ∙ ap (λ z. ops.plus (coefficient ops (every_sum ops es 1 (2 * length es)) k) (coefficient ops z k)) is)
+        ∙ ap (λ z. ops.plus (coefficient ops (power_sums ops es 1 (2 * length es)) k) (coefficient ops z k)) is)
 
     -- no part is empty: else the values would be one, and the polynomial an element alone
     pub some_pass : 2 ≤ length t → IsTrimmed ops t → 1 ≤ length es → 1 ≤ length passing
@@ -113,12 +113,12 @@ module _ {A : Type 0} (ops : Ops A) (ring : IsRing ops) (bits_of : A → ℕ) (w
     part_traces p i lt c bits = All-filter p (λ e. value_at ops (get_or traces i []) e ≡ trace_of ops width (ops.times c e)) es (part.traces_are i lt c bits)
 
     size : length sums ≡ 2 * (length passing + length failing)
-    size = ap length part.sums_are ∙ length-every_sum ops es 1 (2 * length es) ∙ ap (λ n. 2 * n) (sym (parts-length test es))
+    size = ap length part.sums_are ∙ length-power_sums ops es 1 (2 * length es) ∙ ap (λ n. 2 * n) (sym (parts-length test es))
 
     together : (k : ℕ) → k < length sums → coefficient ops sums k ≡ ops.plus (power_sum ops (suc k) passing) (power_sum ops (suc k) failing)
     together k lt =
         ap (λ z. coefficient ops z k) part.sums_are
-        ∙ get_or-every_sum ops es 1 (2 * length es) k ops.zero (omega (arith, ap length part.sums_are, length-every_sum ops es 1 (2 * length es)))
+        ∙ get_or-power_sums ops es 1 (2 * length es) k ops.zero (omega (arith, ap length part.sums_are, length-power_sums ops es 1 (2 * length es)))
         ∙ ap (λ j. power_sum ops j es) (omega arith)
         ∙ power_sum-parts ops ring test (suc k) es
 
@@ -127,16 +127,16 @@ module _ {A : Type 0} (ops : Ops A) (ring : IsRing ops) (bits_of : A → ℕ) (w
       sides : AreSides ops t sums (length es) inside outside inner outer
       sides = subst (λ n. AreSides ops t sums n inside outside inner outer) members solved
 
-      passing_sums : inside ≡ every_sum ops passing 1 (length es)
+      passing_sums : inside ≡ power_sums ops passing 1 (length es)
       passing_sums = inside_is inside sides.windows
 
-      failing_sums : outside ≡ every_sum ops failing 1 (length es)
+      failing_sums : outside ≡ power_sums ops failing 1 (length es)
       failing_sums = outside_is inside outside passing_sums sides.windows.size sides.others
 
-      inner_shortest : IsShortest ops inner (every_sum ops passing 1 (length es))
+      inner_shortest : IsShortest ops inner (power_sums ops passing 1 (length es))
       inner_shortest = subst (IsShortest ops inner) passing_sums sides.inner_is
 
-      outer_shortest : IsShortest ops outer (every_sum ops failing 1 (length es))
+      outer_shortest : IsShortest ops outer (power_sums ops failing 1 (length es))
       outer_shortest = subst (IsShortest ops outer) failing_sums sides.outer_is
 
       pub inner_smaller : (front : List A) → front ≡ inside → 2 ≤ length t → IsTrimmed ops t → 1 ≤ degree f → length inner ≤ length outer
@@ -152,7 +152,7 @@ module _ {A : Type 0} (ops : Ops A) (ring : IsRing ops) (bits_of : A → ℕ) (w
           small_traces = part_traces test;
           large_traces = part_traces (λ e. not (test e));
         };
-        front_is = is ∙ passing_sums ∙ ap (every_sum ops passing 1) (sym (parts-length test es));
+        front_is = is ∙ passing_sums ∙ ap (power_sums ops passing 1) (sym (parts-length test es));
         length_is = only.0;
         polynomial = only.1;
       }
@@ -175,7 +175,7 @@ module _ {A : Type 0} (ops : Ops A) (ring : IsRing ops) (bits_of : A → ℕ) (w
           small_traces = part_traces (λ e. not (test e));
           large_traces = part_traces test;
         };
-        front_is = is ∙ failing_sums ∙ ap (every_sum ops failing 1) (omega (arith, parts-length test es));
+        front_is = is ∙ failing_sums ∙ ap (power_sums ops failing 1) (omega (arith, parts-length test es));
         length_is = only.0;
         polynomial = only.1;
       }
@@ -186,15 +186,15 @@ module _ {A : Type 0} (ops : Ops A) (ring : IsRing ops) (bits_of : A → ℕ) (w
               (omega (arith, parts-length test es)) outer_shortest inner_shortest shorter
 
     -- the set stands in both
-    module _ (place : ℕ) (bits : bits_of b ≡ 2 ^ place) (alike : IsAlike ops bits_of width place es) (f1 s1 f2 s2 : List A) (ts1 ts2 : List (List A)) where
-      passing_alike : IsAlike ops bits_of width (place + 1) passing
-      passing_alike = alike_in_part ops bits_of width width numbered place b bits t test es traced told alike
+    module _ (exponent : ℕ) (bits : bits_of b ≡ 2 ^ exponent) (alike : IsAlike ops bits_of width exponent es) (f1 s1 f2 s2 : List A) (ts1 ts2 : List (List A)) where
+      passing_alike : IsAlike ops bits_of width (exponent + 1) passing
+      passing_alike = alike_in_part ops bits_of width width numbered exponent b bits t test es traced told alike
 
-      failing_alike : IsAlike ops bits_of width (place + 1) failing
-      failing_alike = alike_in_others ops bits_of width width numbered place b bits t test es traced told alike
+      failing_alike : IsAlike ops bits_of width (exponent + 1) failing
+      failing_alike = alike_in_others ops bits_of width width numbered exponent b bits t test es traced told alike
 
-      pub split_passing : IsPart ops bits_of width (place + 1) passing f1 s1 ts1 → IsPart ops bits_of width (place + 1) failing f2 s2 ts2
-          → IsSplit ops bits_of width (place + 1) es f1 s1 ts1 f2 s2 ts2
+      pub split_passing : IsPart ops bits_of width (exponent + 1) passing f1 s1 ts1 → IsPart ops bits_of width (exponent + 1) failing f2 s2 ts2
+          → IsSplit ops bits_of width (exponent + 1) es f1 s1 ts1 f2 s2 ts2
       split_passing one other = record {
         left = passing;
         right = failing;
@@ -205,8 +205,8 @@ module _ {A : Type 0} (ops : Ops A) (ring : IsRing ops) (bits_of : A → ℕ) (w
         right_alike = failing_alike;
       }
 
-      pub split_failing : IsPart ops bits_of width (place + 1) failing f1 s1 ts1 → IsPart ops bits_of width (place + 1) passing f2 s2 ts2
-          → IsSplit ops bits_of width (place + 1) es f1 s1 ts1 f2 s2 ts2
+      pub split_failing : IsPart ops bits_of width (exponent + 1) failing f1 s1 ts1 → IsPart ops bits_of width (exponent + 1) passing f2 s2 ts2
+          → IsSplit ops bits_of width (exponent + 1) es f1 s1 ts1 f2 s2 ts2
       split_failing one other = record {
         left = failing;
         right = passing;

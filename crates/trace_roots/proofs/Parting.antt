@@ -4,22 +4,22 @@ use Rattle.std.specs.List.{All}
 use Rattle.std.proofs.lemmas.List.{length-take-le, get_or_default, ext_get_or}
 use Rattle.field_rules.specs.Ops.{Ops, IsRing}
 use Rattle.field_rules.specs.Fields.{IsField}
-use Rattle.sketch_rules.specs.PowerSums.{power_sum, every_sum}
+use Rattle.sketch_rules.specs.PowerSums.{power_sum, power_sums}
 use Rattle.poly_rules.specs.Polynomials.{coefficient, degree, IsMonic}
 use Rattle.poly_rules.specs.Remainders.{IsRemainder}
 use Rattle.poly_rules.specs.Roots.{IsRoot, with_roots}
 use Rattle.poly_laws.proofs.Roots.{with_roots-monic, with_roots-root}
 use Rattle.poly_laws.proofs.Values.{value_at-remainder}
-use Rattle.poly_rules.specs.Recurrences.{Extends, IsShortest}
+use Rattle.poly_rules.specs.Recurrences.{IsExtension, IsShortest}
 use Rattle.field_laws.proofs.RingFacts.{plus_again}
-use Rattle.sketch_laws.proofs.EverySums.{length-every_sum, get_or-every_sum}
+use Rattle.sketch_laws.proofs.EverySums.{length-power_sums, get_or-power_sums}
 use Rattle.recurrence_laws.proofs.Monic.{monic_form}
 use Rattle.splitting_laws.proofs.Recurrences.{shortest_of_set}
 use Rattle.splitting_laws.proofs.Extensions.{sums_extended}
-use Rattle.trace_roots.specs.Added.{AreAdded}
-use Rattle.trace_roots.specs.Parts.{Fits, IsSet, AreTraces, IsPart, AreHalves}
+use Rattle.trace_roots.specs.Added.{IsItemwiseSum}
+use Rattle.trace_roots.specs.Parts.{HasFittingSizes, IsSet, AreTraces, IsPart, AreHalves}
 
--- each polynomial is the remainder of the one at its place
+-- each polynomial is the remainder of the one at its index
 pub record AreRemainders {A : Type 0} (ops : Ops A) (f : List A) (traces rests : List (List A)) : Type 0 where
   pub size : length rests ≡ length traces
   pub each : (i : ℕ) → i < length traces → IsRemainder ops (get_or traces i []) f (get_or rests i [])
@@ -34,7 +34,7 @@ module _ {A : Type 0} (ops : Ops A) (ring : IsRing ops) where
 
   -- remainders have fewer coefficients
   pub remainders_fit : (f sums rest : List A) (traces rests : List (List A)) → IsMonic ops (degree f) f → 1 ≤ degree f → 2 * degree f ≤ length sums → rest ≡ take (2 * degree f) sums
-      → AreRemainders ops f traces rests → Fits ops f rest rests
+      → AreRemainders ops f traces rests → HasFittingSizes ops f rest rests
   remainders_fit f sums rest traces rests monic some enough is remainders = record {
     monic = monic;
     some = some;
@@ -53,7 +53,7 @@ module _ {A : Type 0} (ops : Ops A) (ring : IsRing ops) where
       ∙ traced i inside b bits k d within
 
   pub remainders_part : (bits_of : A → ℕ) (width first : ℕ) (f es sums rest : List A) (traces rests : List (List A)) → IsSet ops es → f ≡ with_roots ops es
-      → take (2 * length es) sums ≡ every_sum ops es 1 (2 * length es) → rest ≡ take (2 * degree f) sums → AreRemainders ops f traces rests
+      → take (2 * length es) sums ≡ power_sums ops es 1 (2 * length es) → rest ≡ take (2 * degree f) sums → AreRemainders ops f traces rests
       → AreTraces ops bits_of width first es traces → IsPart ops bits_of width first es f rest rests
   remainders_part bits_of width first f es sums rest traces rests set is front rest_is remainders traced = record {
     set = set;
@@ -73,50 +73,50 @@ module _ {A : Type 0} (ops : Ops A) (ring : IsRing ops) where
 
   -- the sums of both, and the recurrence of the larger one
   pub record AreSolved (small large own rest ds : List A) : Type 0 where
-    pub own_is : own ≡ every_sum ops small 1 (2 * length large)
-    pub rest_is : rest ≡ every_sum ops large 1 (2 * length large)
+    pub own_is : own ≡ power_sums ops small 1 (2 * length large)
+    pub rest_is : rest ≡ power_sums ops large 1 (2 * length large)
     pub size : length ds ≡ length large
     pub polynomial : reverse (ops.one ∷ ds) ≡ with_roots ops large
 
   module _ (bits_of : A → ℕ) (width first : ℕ) (small large sums : List A) (traces : List (List A)) (halves : AreHalves ops bits_of width first small large sums traces) where
     -- the sums of the smaller one, continued
-    pub small_sums : (f front own : List A) (n : ℕ) → front ≡ every_sum ops small 1 (length small + length large) → f ≡ with_roots ops small → n ≡ 2 * length large
-        → Extends ops f front n own → own ≡ every_sum ops small 1 (2 * length large)
+    pub small_sums : (f front own : List A) (n : ℕ) → front ≡ power_sums ops small 1 (length small + length large) → f ≡ with_roots ops small → n ≡ 2 * length large
+        → IsExtension ops f front n own → own ≡ power_sums ops small 1 (2 * length large)
     small_sums f front own n front_is f_is same extends =
         sums_extended ops ring f small (length small + length large) (2 * length large) own f_is (omega arith) (omega (arith, halves.fewer))
-        (subst (λ z. Extends ops f z (2 * length large) own) front_is (subst (λ z. Extends ops f front z own) same extends))
+        (subst (λ z. IsExtension ops f z (2 * length large) own) front_is (subst (λ z. IsExtension ops f front z own) same extends))
 
     -- the sums of the larger one: those of both, with those of the smaller one added
-    pub large_sums : (own rest : List A) → own ≡ every_sum ops small 1 (2 * length large) → AreAdded ops own sums rest → rest ≡ every_sum ops large 1 (2 * length large)
+    pub large_sums : (own rest : List A) → own ≡ power_sums ops small 1 (2 * length large) → IsItemwiseSum ops own sums rest → rest ≡ power_sums ops large 1 (2 * length large)
     large_sums own rest own_is added =
-        ext_get_or ops.zero rest (every_sum ops large 1 (2 * length large)) (size ∙ sym (length-every_sum ops large 1 (2 * length large))) each
+        ext_get_or ops.zero rest (power_sums ops large 1 (2 * length large)) (size ∙ sym (length-power_sums ops large 1 (2 * length large))) each
       where
         own_size : length own ≡ 2 * length large
-        own_size = ap length own_is ∙ length-every_sum ops small 1 (2 * length large)
+        own_size = ap length own_is ∙ length-power_sums ops small 1 (2 * length large)
 
         size : length rest ≡ 2 * length large
         size = added.size ∙ own_size
 
-        each : (k : ℕ) → k < length rest → get_or rest k ops.zero ≡ get_or (every_sum ops large 1 (2 * length large)) k ops.zero
+        each : (k : ℕ) → k < length rest → get_or rest k ops.zero ≡ get_or (power_sums ops large 1 (2 * length large)) k ops.zero
         each k lt =
             added.each k (omega (arith, added.size))
-            ∙ ap (λ z. ops.plus z (coefficient ops sums k)) (ap (λ z. coefficient ops z k) own_is ∙ get_or-every_sum ops small 1 (2 * length large) k ops.zero (omega (arith, size)) ∙ ap (λ j. power_sum ops j small) (omega arith))
+            ∙ ap (λ z. ops.plus z (coefficient ops sums k)) (ap (λ z. coefficient ops z k) own_is ∙ get_or-power_sums ops small 1 (2 * length large) k ops.zero (omega (arith, size)) ∙ ap (λ j. power_sum ops j small) (omega arith))
             ∙ ap (ops.plus (power_sum ops (suc k) small)) (halves.together k (omega (arith, halves.size, size)))
             ∙ plus_again ops ring (power_sum ops (suc k) small) (power_sum ops (suc k) large)
-            ∙ sym (get_or-every_sum ops large 1 (2 * length large) k ops.zero (omega (arith, size)) ∙ ap (λ j. power_sum ops j large) (omega arith))
+            ∙ sym (get_or-power_sums ops large 1 (2 * length large) k ops.zero (omega (arith, size)) ∙ ap (λ j. power_sum ops j large) (omega arith))
 
     -- so its shortest recurrence is its polynomial
-    pub large_recurrence : IsField ops width → (rest ds : List A) → rest ≡ every_sum ops large 1 (2 * length large) → IsShortest ops ds rest
+    pub large_recurrence : IsField ops width → (rest ds : List A) → rest ≡ power_sums ops large 1 (2 * length large) → IsShortest ops ds rest
         → (length ds ≡ length large) × (reverse (ops.one ∷ ds) ≡ with_roots ops large)
     large_recurrence field rest ds is shortest =
         shortest_of_set ops ring width field ds large (2 * length large) halves.large_set.distinct halves.large_set.nonzero (omega arith) (subst (IsShortest ops ds) is shortest)
 
     -- all together, where own', sums' and rest' are what the calls were given for own, sums and rest
-    pub both_solved : IsField ops width → (f front own own' sums' rest rest' ds : List A) (n : ℕ) → front ≡ every_sum ops small 1 (length small + length large) → f ≡ with_roots ops small
-        → n ≡ 2 * length large → Extends ops f front n own → own' ≡ own → sums' ≡ sums → AreAdded ops own' sums' rest → rest' ≡ rest → IsShortest ops ds rest'
+    pub both_solved : IsField ops width → (f front own own' sums' rest rest' ds : List A) (n : ℕ) → front ≡ power_sums ops small 1 (length small + length large) → f ≡ with_roots ops small
+        → n ≡ 2 * length large → IsExtension ops f front n own → own' ≡ own → sums' ≡ sums → IsItemwiseSum ops own' sums' rest → rest' ≡ rest → IsShortest ops ds rest'
         → AreSolved small large own rest ds
     both_solved field f front own own' sums' rest rest' ds n front_is f_is same extends own_same sums_same added rest_same shortest =
-        let own_is : own ≡ every_sum ops small 1 (2 * length large) = small_sums f front own n front_is f_is same extends in
-        let rest_is : rest ≡ every_sum ops large 1 (2 * length large) = large_sums own rest own_is (subst (λ z. AreAdded ops z sums rest) own_same (subst (λ z. AreAdded ops own' z rest) sums_same added)) in
+        let own_is : own ≡ power_sums ops small 1 (2 * length large) = small_sums f front own n front_is f_is same extends in
+        let rest_is : rest ≡ power_sums ops large 1 (2 * length large) = large_sums own rest own_is (subst (λ z. IsItemwiseSum ops z sums rest) own_same (subst (λ z. IsItemwiseSum ops own' z rest) sums_same added)) in
         let found : (length ds ≡ length large) × (reverse (ops.one ∷ ds) ≡ with_roots ops large) = large_recurrence field rest ds rest_is (subst (IsShortest ops ds) rest_same shortest) in
         record { own_is = own_is; rest_is = rest_is; size = found.0; polynomial = found.1 }

@@ -8,17 +8,17 @@ use Rattle.std.proofs.lemmas.List.Sorted.{IsNonDecreasingBy-from_sort, IsNonDecr
 use Rattle.field_rules.specs.Ops.{Ops, IsRing}
 use Rattle.field_rules.specs.Fields.{IsField}
 use Rattle.field_rules.specs.Numbered.{IsNumbered}
-use Rattle.sketch_rules.specs.PowerSums.{IsAllSums, every_sum, sketch_by}
+use Rattle.sketch_rules.specs.PowerSums.{IsAllSums, power_sums, sketch_by}
 use Rattle.sketch_rules.specs.Sketches.{sketch_at}
-use Rattle.sketch_rules.specs.Answers.{Rises, Answer, answer_at, answer_at-some}
+use Rattle.sketch_rules.specs.Answers.{IsAscending, Answer, answer_at, answer_at-some}
 use Rattle.poly_rules.specs.Recurrences.{IsShortest}
 use Rattle.field_laws.proofs.NumberedLists.{elements_of, same_elements}
-use Rattle.sketch_laws.proofs.EverySums.{every_sum-only}
-use Rattle.sketch_laws.proofs.Rising.{AllPairs-from_Rises, each_within}
+use Rattle.sketch_laws.proofs.EverySums.{power_sums-only}
+use Rattle.sketch_laws.proofs.Rising.{AllPairs-from_IsAscending, each_within}
 use Rattle.sketch_laws.proofs.SketchNumbers.{sketch_by-numbers}
 use Rattle.splitting_laws.proofs.Permutations.{ascending_only}
 use Rattle.splitting_laws.proofs.Recurrences.{shortest_of_set}
-use Rattle.splitting_laws.proofs.Windows.{take-every_sum}
+use Rattle.splitting_laws.proofs.Windows.{take-power_sums}
 use Rattle.trace_roots.specs.Parts.{IsSet, IsPart}
 use Rattle.trace_roots.proofs.Answering.{nonzero_of_rises, distinct_of_rises}
 
@@ -46,7 +46,7 @@ pub record HasSums {A : Type 0} (ops : Ops A) (bits_of : A → ℕ) (s : List A)
   pub numbers : map bits_of members ≡ ns
   pub set : IsSet ops members
   pub few : 2 * length members ≤ length s
-  pub sums : s ≡ every_sum ops members 1 (length s)
+  pub sums : s ≡ power_sums ops members 1 (length s)
   pub ascending : IsNonDecreasingBy bits_of members
 
 module _ {A : Type 0} (ops : Ops A) (ring : IsRing ops) (bits_of : A → ℕ) (width : ℕ) (field : IsField ops width) (numbered : IsNumbered ops bits_of width) where
@@ -60,7 +60,7 @@ module _ {A : Type 0} (ops : Ops A) (ring : IsRing ops) (bits_of : A → ℕ) (w
       nonzero = nonzero_of_rises ops bits_of width numbered es rises;
     };
     few = omega (arith, all.size, answer.few, ap length is, length-map es bits_of, length-map m bits_of);
-    sums = every_sum-only ops ring es (length m) s (subst (λ z. IsAllSums ops z s) m_is all) ∙ ap (every_sum ops es 1) (sym all.size);
+    sums = power_sums-only ops ring es (length m) s (subst (λ z. IsAllSums ops z s) m_is all) ∙ ap (power_sums ops es 1) (sym all.size);
     ascending = IsNonDecreasingBy-from_all_adjacent bits_of es (λ k d lt. rises_next k d lt);
   }
     where
@@ -73,13 +73,13 @@ module _ {A : Type 0} (ops : Ops A) (ring : IsRing ops) (bits_of : A → ℕ) (w
       is : map bits_of es ≡ ns
       is = found.1
 
-      rises : Rises 1 (2 ^ width) (map bits_of es)
-      rises = subst (Rises 1 (2 ^ width)) (sym is) answer.rises
+      rises : IsAscending 1 (2 ^ width) (map bits_of es)
+      rises = subst (IsAscending 1 (2 ^ width)) (sym is) answer.rises
 
       rises_next : (k : ℕ) (d : A) → k + 1 < length es → bits_of (get_or es k d) ≤ bits_of (get_or es (k + 1) d)
       rises_next k d lt =
           let less : get_or (map bits_of es) k (bits_of d) < get_or (map bits_of es) (k + 1) (bits_of d) =
-          AllPairs-from_Rises 1 (2 ^ width) (map bits_of es) rises k (k + 1) (bits_of d) (omega arith) (omega (arith, length-map es bits_of)) in
+          AllPairs-from_IsAscending 1 (2 ^ width) (map bits_of es) rises k (k + 1) (bits_of d) (omega arith) (omega (arith, length-map es bits_of)) in
           omega (arith, less, get_or-map bits_of es k d (bits_of d) (omega arith), get_or-map bits_of es (k + 1) d (bits_of d) lt)
 
       m_is : m ≡ sketch_by ops es (length m)
@@ -91,12 +91,12 @@ module _ {A : Type 0} (ops : Ops A) (ring : IsRing ops) (bits_of : A → ℕ) (w
           ∙ sym (sketch_by-numbers ops bits_of width numbered es (length m)))
 
   -- its shortest recurrence is as long as the set is large
-  pub locator_of_set : (es s cs : List A) → IsSet ops es → 2 * length es ≤ length s → s ≡ every_sum ops es 1 (length s) → IsShortest ops cs s → length cs ≡ length es
+  pub locator_of_set : (es s cs : List A) → IsSet ops es → 2 * length es ≤ length s → s ≡ power_sums ops es 1 (length s) → IsShortest ops cs s → length cs ≡ length es
   locator_of_set es s cs set few is shortest =
       (shortest_of_set ops ring width field cs es (length s) set.distinct set.nonzero few (subst (IsShortest ops cs) is shortest)).0
 
   -- the whole set as the part that is to be taken apart
-  pub whole_part : (es s cs f front : List A) (traces : List (List A)) → IsSet ops es → 2 * length es ≤ length s → s ≡ every_sum ops es 1 (length s) → IsShortest ops cs s
+  pub whole_part : (es s cs f front : List A) (traces : List (List A)) → IsSet ops es → 2 * length es ≤ length s → s ≡ power_sums ops es 1 (length s) → IsShortest ops cs s
       → f ≡ reverse (ops.one ∷ cs) → front ≡ take (2 * length cs) s → traces ≡ [] → IsPart ops bits_of width 0 es f front traces
   whole_part es s cs f front traces set few is shortest f_is front_is none = record {
     set = set;
@@ -105,7 +105,7 @@ module _ {A : Type 0} (ops : Ops A) (ring : IsRing ops) (bits_of : A → ℕ) (w
         front_is
         ∙ ap (λ n. take (2 * n) s) (locator_of_set es s cs set few is shortest)
         ∙ ap (take (2 * length es)) is
-        ∙ take-every_sum ops es 1 (2 * length es) (length s) few;
+        ∙ take-power_sums ops es 1 (2 * length es) (length s) few;
     traces_are = λ i lt. absurd (omega (arith, ap length none));
   }
 

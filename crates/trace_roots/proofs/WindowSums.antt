@@ -3,11 +3,11 @@ use Rattle.std.proofs.Common.{◌≡◌, ℕ, zero, suc, ◌+◌, ◌<◌, ◌�
 use Rattle.std.proofs.lemmas.List.{length-take-le, length-map, length-replicate, get_or-replicate, get_or-take, get_or-drop}
 use Rattle.field_rules.specs.Ops.{Ops, IsRing}
 use Rattle.field_rules.specs.Fields.{with_multiple, dot_of}
-use Rattle.poly_rules.specs.Polynomials.{coefficient, sum_of, scaled}
+use Rattle.poly_rules.specs.Polynomials.{coefficient, sum_of, scalar_multiple}
 use Rattle.field_laws.proofs.RingFacts.{times_zero, one_times}
-use Rattle.poly_laws.proofs.Sums.{coefficient-sum, coefficient-scaled}
-use Rattle.splitting_laws.specs.Parts.{IsWindows}
-use Rattle.trace_roots.specs.Added.{AreAdded}
+use Rattle.poly_laws.proofs.Sums.{coefficient-sum, coefficient-scalar_multiple}
+use Rattle.splitting_laws.specs.Parts.{IsCorrelation}
+use Rattle.trace_roots.specs.Added.{IsItemwiseSum}
 use Rattle.poly_laws.proofs.Division.{length-sum, with_multiple-sum}
 
 module _ {A : Type 0} (ops : Ops A) (ring : IsRing ops) where
@@ -26,7 +26,7 @@ module _ {A : Type 0} (ops : Ops A) (ring : IsRing ops) where
       ∙ sym (ring.plus_assoc (ops.times a y) (dot_of ops (take i xs) ys) (ops.times x (get_or ys i ops.zero)))
 
   -- no coefficient
-  pub no_windows : (coefficients sums : List A) (n : ℕ) (v : List A) → v ≡ replicate n ops.zero → IsWindows ops (take 0 coefficients) sums n v
+  pub no_windows : (coefficients sums : List A) (n : ℕ) (v : List A) → v ≡ replicate n ops.zero → IsCorrelation ops (take 0 coefficients) sums n v
   unfolding dot_of
   no_windows coefficients sums n v is = record {
     size = ap length is ∙ length-replicate n ops.zero;
@@ -35,13 +35,13 @@ module _ {A : Type 0} (ops : Ops A) (ring : IsRing ops) where
 
   -- one coefficient more
   pub more_windows : (coefficients sums : List A) (n i m : ℕ) (x : A) (v w : List A) → n + length coefficients ≤ length sums → i < length coefficients → x ≡ get_or coefficients i x → m ≡ n
-      → IsWindows ops (take i coefficients) sums n v → w ≡ with_multiple ops v x (take m (drop i sums)) → IsWindows ops (take (i + 1) coefficients) sums n w
+      → IsCorrelation ops (take i coefficients) sums n v → w ≡ with_multiple ops v x (take m (drop i sums)) → IsCorrelation ops (take (i + 1) coefficients) sums n w
   more_windows coefficients sums n i m x v w fits lt is same h w_is = record {
-    size = ap length sum ∙ length-sum ops v (scaled ops x part) (omega (arith, part_size, h.size, length-map part (λ a. ops.times x a))) ∙ h.size;
+    size = ap length sum ∙ length-sum ops v (scalar_multiple ops x part) (omega (arith, part_size, h.size, length-map part (λ a. ops.times x a))) ∙ h.size;
     each = λ k below.
         ap (λ z. coefficient ops z k) sum
-        ∙ coefficient-sum ops ring v (scaled ops x part) k
-        ∙ ap (ops.plus (coefficient ops v k)) (coefficient-scaled ops ring x part k ∙ ap (ops.times x) (at k below))
+        ∙ coefficient-sum ops ring v (scalar_multiple ops x part) k
+        ∙ ap (ops.plus (coefficient ops v k)) (coefficient-scalar_multiple ops ring x part k ∙ ap (ops.times x) (at k below))
         ∙ ap (λ z. ops.plus z (ops.times x (get_or (drop k sums) i ops.zero))) (h.each k below)
         ∙ sym (dot_of-take coefficients (drop k sums) i x lt is);
   }
@@ -52,7 +52,7 @@ module _ {A : Type 0} (ops : Ops A) (ring : IsRing ops) where
       part_size : length part ≡ n
       part_size = length-take-le m (drop i sums) (omega (arith, length-drop i sums)) ∙ same
 
-      sum : w ≡ sum_of ops v (scaled ops x part)
+      sum : w ≡ sum_of ops v (scalar_multiple ops x part)
       sum = w_is ∙ with_multiple-sum ops x v part (omega (arith, part_size, h.size))
 
       at : (k : ℕ) → k < n → coefficient ops part k ≡ get_or (drop k sums) i ops.zero
@@ -63,13 +63,13 @@ module _ {A : Type 0} (ops : Ops A) (ring : IsRing ops) where
           ∙ sym (get_or-drop k sums i ops.zero)
 
   -- one times each of the second list
-  pub added : (first second v : List A) (m : ℕ) → length first ≤ length second → m ≡ length first → v ≡ with_multiple ops first ops.one (take m second) → AreAdded ops first second v
+  pub added : (first second v : List A) (m : ℕ) → length first ≤ length second → m ≡ length first → v ≡ with_multiple ops first ops.one (take m second) → IsItemwiseSum ops first second v
   added first second v m fits same v_is = record {
-    size = ap length sum ∙ length-sum ops first (scaled ops ops.one part) (omega (arith, part_size, length-map part (λ a. ops.times ops.one a)));
+    size = ap length sum ∙ length-sum ops first (scalar_multiple ops ops.one part) (omega (arith, part_size, length-map part (λ a. ops.times ops.one a)));
     each = λ k below.
         ap (λ z. coefficient ops z k) sum
-        ∙ coefficient-sum ops ring first (scaled ops ops.one part) k
-        ∙ ap (ops.plus (coefficient ops first k)) (coefficient-scaled ops ring ops.one part k ∙ one_times ops ring (coefficient ops part k) ∙ get_or-take m second k ops.zero (omega arith));
+        ∙ coefficient-sum ops ring first (scalar_multiple ops ops.one part) k
+        ∙ ap (ops.plus (coefficient ops first k)) (coefficient-scalar_multiple ops ring ops.one part k ∙ one_times ops ring (coefficient ops part k) ∙ get_or-take m second k ops.zero (omega arith));
   }
     where
       part : List A
@@ -78,7 +78,7 @@ module _ {A : Type 0} (ops : Ops A) (ring : IsRing ops) where
       part_size : length part ≡ length first
       part_size = length-take-le m second (omega arith) ∙ same
 
-      sum : v ≡ sum_of ops first (scaled ops ops.one part)
+      sum : v ≡ sum_of ops first (scalar_multiple ops ops.one part)
       sum = v_is ∙ with_multiple-sum ops ops.one first part (omega (arith, part_size))
 
 -- a multiple of a shorter list is added to the front

@@ -5,17 +5,17 @@ use Rattle.std.specs.List.Sorted.{IsPermutation}
 use Rattle.field_rules.specs.Ops.{Ops}
 use Rattle.field_rules.specs.Fields.{trace_of}
 use Rattle.field_rules.specs.Lists.{AreDistinct}
-use Rattle.sketch_rules.specs.PowerSums.{power_sum, every_sum}
-use Rattle.poly_rules.specs.Polynomials.{coefficient, Same, IsMonic, degree, value_at}
+use Rattle.sketch_rules.specs.PowerSums.{power_sum, power_sums}
+use Rattle.poly_rules.specs.Polynomials.{coefficient, IsSamePolynomial, IsMonic, degree, value_at}
 use Rattle.poly_rules.specs.Roots.{with_roots}
 use Rattle.splitting_laws.specs.Alike.{IsAlike}
 use Rattle.poly_rules.specs.Recurrences.{IsShortest}
-use Rattle.splitting_laws.specs.Parts.{IsWindows}
+use Rattle.splitting_laws.specs.Parts.{IsCorrelation}
 use Rattle.splitting_laws.specs.Traces.{trace_polynomial}
-use Rattle.trace_roots.specs.Added.{AreAdded}
+use Rattle.trace_roots.specs.Added.{IsItemwiseSum}
 
 -- the sizes fit: a monic polynomial, twice as many sums as its degree, and trace polynomials of lower degree
-pub record Fits {A : Type 0} (ops : Ops A) (locator sums : List A) (traces : List (List A)) : Type 0 where
+pub record HasFittingSizes {A : Type 0} (ops : Ops A) (locator sums : List A) (traces : List (List A)) : Type 0 where
   pub monic : IsMonic ops (degree locator) locator
   pub some : 1 ≤ degree locator
   pub twice : length sums ≡ 2 * degree locator
@@ -26,30 +26,30 @@ pub record IsSet {A : Type 0} (ops : Ops A) (es : List A) : Type 0 where
   pub distinct : AreDistinct es
   pub nonzero : All (λ e. e ≢ ops.zero) es
 
--- the trace polynomials over the table, for the places from the first on
+-- the trace polynomials over the table, for the exponents from the first on
 abbrev pub ArePolynomials : {A : Type 0} → Ops A → (A → ℕ) → ℕ → ℕ → List (List A) → List (List A) → Type 0
 ArePolynomials ops bits_of width first table traces =
-    (i : ℕ) (b : _) → i < length traces → bits_of b ≡ 2 ^ (first + i) → Same ops (get_or traces i []) (trace_polynomial ops b width table)
+    (i : ℕ) (b : _) → i < length traces → bits_of b ≡ 2 ^ (first + i) → IsSamePolynomial ops (get_or traces i []) (trace_polynomial ops b width table)
 
--- the value at each member e is the trace of b * e, where b is x to the power place
+-- the value at each member e is the trace of b * e, where b is x ^ exponent
 abbrev pub IsTrace : {A : Type 0} → Ops A → (A → ℕ) → ℕ → ℕ → List A → List A → Type 0
-IsTrace ops bits_of width place es t = (b : _) → bits_of b ≡ 2 ^ place → All (λ e. value_at ops t e ≡ trace_of ops width (ops.times b e)) es
+IsTrace ops bits_of width exponent es t = (b : _) → bits_of b ≡ 2 ^ exponent → All (λ e. value_at ops t e ≡ trace_of ops width (ops.times b e)) es
 
--- the same for the places from the first on
+-- the same for the exponents from the first on
 abbrev pub AreTraces : {A : Type 0} → Ops A → (A → ℕ) → ℕ → ℕ → List A → List (List A) → Type 0
 AreTraces ops bits_of width first es traces = (i : ℕ) → i < length traces → IsTrace ops bits_of width (first + i) es (get_or traces i [])
 
--- a set's polynomial and sums, and the trace polynomials of the places from the first on
+-- a set's polynomial and sums, and the trace polynomials of the exponents from the first on
 pub record IsPart {A : Type 0} (ops : Ops A) (bits_of : A → ℕ) (width first : ℕ) (es locator sums : List A) (traces : List (List A)) : Type 0 where
   pub set : IsSet ops es
   pub locator_is : locator ≡ with_roots ops es
-  pub sums_are : sums ≡ every_sum ops es 1 (2 * length es)
+  pub sums_are : sums ≡ power_sums ops es 1 (2 * length es)
   pub traces_are : AreTraces ops bits_of width first es traces
 
 -- the sums of the members where t is one and of the others, n each, and their shortest recurrences
 pub record AreSides {A : Type 0} (ops : Ops A) (t sums : List A) (n : ℕ) (inside outside inner outer : List A) : Type 0 where
-  pub windows : IsWindows ops t sums n inside
-  pub others : AreAdded ops inside sums outside
+  pub windows : IsCorrelation ops t sums n inside
+  pub others : IsItemwiseSum ops inside sums outside
   pub inner_is : IsShortest ops inner inside
   pub outer_is : IsShortest ops outer outside
 
@@ -67,11 +67,11 @@ pub record AreHalves {A : Type 0} (ops : Ops A) (bits_of : A → ℕ) (width fir
 -- and of the first the sums at the front, as many as both have members, and the recurrence
 pub record IsSmaller {A : Type 0} (ops : Ops A) (bits_of : A → ℕ) (width first : ℕ) (small large sums : List A) (traces : List (List A)) (front cs : List A) : Type 0 where
   pub halves : AreHalves ops bits_of width first small large sums traces
-  pub front_is : front ≡ every_sum ops small 1 (length small + length large)
+  pub front_is : front ≡ power_sums ops small 1 (length small + length large)
   pub length_is : length cs ≡ length small
   pub polynomial : reverse (ops.one ∷ cs) ≡ with_roots ops small
 
--- a set's members stand in two parts, each alike at the places below the first
+-- a set's members stand in two parts, each alike at the exponents below the first
 pub record IsSplit {A : Type 0} (ops : Ops A) (bits_of : A → ℕ) (width first : ℕ) (es f s : List A) (ts : List (List A)) (g u : List A) (vs : List (List A)) : Type 0 where
   pub left : List A
   pub right : List A

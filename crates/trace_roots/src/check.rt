@@ -3,7 +3,7 @@
 ghost use Rattle.std.specs.Prelude.{◌≡◌, ◌↔◌, ℕ, ◌*◌, ◌^◌, ◌<◌, ◌≤◌, List, length, map, IfOk, IsTrue};
 ghost use Rattle.sketch_rules.specs.PowerSums.{IsAllSums};
 ghost use Rattle.sketch_rules.specs.Sketches.{IsCapacity};
-ghost use Rattle.sketch_rules.specs.Answers.{Rises, Answer};
+ghost use Rattle.sketch_rules.specs.Answers.{IsAscending, Answer};
 ghost use Rattle.trace_roots.specs.Agreeing.{AreAtOddPowers};
 
 use base_types::OutOfMemory;
@@ -21,7 +21,7 @@ pub fn is_answer<F: Field>(alloc: Global, items: &[F], sums: &[F]) -> Result<boo
         → IfOk result (λ yes. IsTrue yes) }
 {
     let capacity = sums.len() / 2;
-    if items.len() > capacity || !rises(items) {
+    if items.len() > capacity || !is_ascending(items) {
         return Ok(false);
     }
     let Ok(sketch) = Sketch::of(alloc, items, capacity) else {
@@ -31,8 +31,8 @@ pub fn is_answer<F: Field>(alloc: Global, items: &[F], sums: &[F]) -> Result<boo
 }
 
 /// Whether the items are nonzero and ascending, each once.
-fn rises<F: Field>(items: &[F]) -> bool
-    ensures { IsTrue result ↔ Rises 1 (2 ^ F.BITS) (map F.bits_of items.now) }
+fn is_ascending<F: Field>(items: &[F]) -> bool
+    ensures { IsTrue result ↔ IsAscending 1 (2 ^ F.BITS) (map F.bits_of items.now) }
 {
     let mut last = F::ZERO;
     for item in items {

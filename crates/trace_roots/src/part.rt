@@ -3,11 +3,11 @@
 ghost use Rattle.std.specs.Prelude.{◌≡◌, ℕ, ◌+◌, ◌*◌, ◌^◌, ◌≤◌, List, length, take, IfOk, IfSome, IsSome};
 ghost use Rattle.std.specs.List.{All};
 ghost use Rattle.field_rules.specs.Fields.{trace_of};
-ghost use Rattle.sketch_rules.specs.PowerSums.{every_sum};
+ghost use Rattle.sketch_rules.specs.PowerSums.{power_sums};
 ghost use Rattle.poly_rules.specs.Polynomials.{degree, IsMonic, IsTrimmed, value_at};
 ghost use Rattle.poly_rules.specs.Roots.{with_roots};
 ghost use Rattle.splitting_laws.specs.Alike.{IsAlike};
-ghost use Rattle.trace_roots.specs.Parts.{Fits, IsSet, AreTraces, IsPart, AreSides, IsSmaller, IsSplit};
+ghost use Rattle.trace_roots.specs.Parts.{HasFittingSizes, IsSet, AreTraces, IsPart, AreSides, IsSmaller, IsSplit};
 
 use crate::traces::reduced;
 use crate::windows::{added, windows};
@@ -24,27 +24,27 @@ pub struct Part<F: Field> {
     pub locator: Poly<F>,
     /// `s_1, s_2, ..`, twice as many as there are members.
     pub sums: Vec<F>,
-    /// The trace polynomials of the next places, modulo the locator.
+    /// The trace polynomials of the next exponents, modulo the locator.
     pub traces: Vec<Poly<F>>,
 }
 
-/// The two parts of a set whose members have the traces 0 and 1, as the trace polynomial of the place tells them.
+/// The two parts of a set whose members have the traces 0 and 1, as the trace polynomial tells them.
 pub fn halves<F: Field>(
     alloc: Global,
     part: &Part<F>,
     trace: &Poly<F>,
 ) -> Result<Option<(Part<F>, Part<F>)>, OutOfMemory>
-    requires fits { Fits F.ops part.now.locator part.now.sums.items part.now.traces.items }
+    requires fits { HasFittingSizes F.ops part.now.locator part.now.sums.items part.now.traces.items }
     requires lower { length trace.now ≤ degree part.now.locator }
     requires apart { 2 ≤ length trace.now }
     requires trimmed { IsTrimmed F.ops trace.now }
-    ensures first { IfOk result (λ r. IfSome r (λ p. Fits F.ops p.0.locator p.0.sums.items p.0.traces.items)) }
-    ensures second { IfOk result (λ r. IfSome r (λ p. Fits F.ops p.1.locator p.1.sums.items p.1.traces.items)) }
-    ensures found { (place : ℕ) (b : F) (es : List F) → F.bits_of b ≡ 2 ^ place → IsPart F.ops F.bits_of F.BITS (place + 1) es part.now.locator part.now.sums.items part.now.traces.items
+    ensures first { IfOk result (λ r. IfSome r (λ p. HasFittingSizes F.ops p.0.locator p.0.sums.items p.0.traces.items)) }
+    ensures second { IfOk result (λ r. IfSome r (λ p. HasFittingSizes F.ops p.1.locator p.1.sums.items p.1.traces.items)) }
+    ensures found { (exponent : ℕ) (b : F) (es : List F) → F.bits_of b ≡ 2 ^ exponent → IsPart F.ops F.bits_of F.BITS (exponent + 1) es part.now.locator part.now.sums.items part.now.traces.items
         → All (λ e. value_at F.ops trace.now e ≡ trace_of F.ops F.BITS (F.ops.times b e)) es → IfOk result IsSome }
-    ensures parts { (place : ℕ) (b : F) (es : List F) → F.bits_of b ≡ 2 ^ place → IsPart F.ops F.bits_of F.BITS (place + 1) es part.now.locator part.now.sums.items part.now.traces.items
-        → All (λ e. value_at F.ops trace.now e ≡ trace_of F.ops F.BITS (F.ops.times b e)) es → IsAlike F.ops F.bits_of F.BITS place es
-        → IfOk result (λ r. IfSome r (λ p. IsSplit F.ops F.bits_of F.BITS (place + 1) es p.0.locator p.0.sums.items p.0.traces.items p.1.locator p.1.sums.items p.1.traces.items)) }
+    ensures parts { (exponent : ℕ) (b : F) (es : List F) → F.bits_of b ≡ 2 ^ exponent → IsPart F.ops F.bits_of F.BITS (exponent + 1) es part.now.locator part.now.sums.items part.now.traces.items
+        → All (λ e. value_at F.ops trace.now e ≡ trace_of F.ops F.BITS (F.ops.times b e)) es → IsAlike F.ops F.bits_of F.BITS exponent es
+        → IfOk result (λ r. IfSome r (λ p. IsSplit F.ops F.bits_of F.BITS (exponent + 1) es p.0.locator p.0.sums.items p.0.traces.items p.1.locator p.1.sums.items p.1.traces.items)) }
 {
     let sides = solved(alloc, part, trace)?;
     if sides.inner.length() <= sides.outer.length() {
@@ -65,7 +65,7 @@ struct Sides<F: Field> {
 }
 
 fn solved<F: Field>(alloc: Global, part: &Part<F>, trace: &Poly<F>) -> Result<Sides<F>, OutOfMemory>
-    requires fits { Fits F.ops part.now.locator part.now.sums.items part.now.traces.items }
+    requires fits { HasFittingSizes F.ops part.now.locator part.now.sums.items part.now.traces.items }
     requires lower { length trace.now ≤ degree part.now.locator }
     ensures { IfOk result (λ s. AreSides F.ops trace.now part.now.sums.items (degree part.now.locator) s.inside.items s.outside.items s.inner s.outer) }
 {
@@ -89,10 +89,10 @@ fn parted<F: Field>(
     smaller: Locator<F>,
     sums: &[F],
 ) -> Result<Option<(Part<F>, Part<F>)>, OutOfMemory>
-    requires fits { Fits F.ops part.now.locator part.now.sums.items part.now.traces.items }
+    requires fits { HasFittingSizes F.ops part.now.locator part.now.sums.items part.now.traces.items }
     requires sums { length sums.now ≡ degree part.now.locator }
-    ensures first { IfOk result (λ r. IfSome r (λ p. Fits F.ops p.0.locator p.0.sums.items p.0.traces.items)) }
-    ensures second { IfOk result (λ r. IfSome r (λ p. Fits F.ops p.1.locator p.1.sums.items p.1.traces.items)) }
+    ensures first { IfOk result (λ r. IfSome r (λ p. HasFittingSizes F.ops p.0.locator p.0.sums.items p.0.traces.items)) }
+    ensures second { IfOk result (λ r. IfSome r (λ p. HasFittingSizes F.ops p.1.locator p.1.sums.items p.1.traces.items)) }
     ensures found { (first : ℕ) (small large : List F) → IsSmaller F.ops F.bits_of F.BITS first small large part.now.sums.items part.now.traces.items sums.now smaller
         → IfOk result IsSome }
     ensures parts { (first : ℕ) (small large : List F) → IsSmaller F.ops F.bits_of F.BITS first small large part.now.sums.items part.now.traces.items sums.now smaller
@@ -126,8 +126,8 @@ fn with_traces<F: Field>(
     requires monic { IsMonic F.ops (degree locator) locator }
     requires degree { 1 ≤ degree locator }
     requires enough { 2 * degree locator ≤ length sums.items }
-    ensures fits { IfOk result (λ p. Fits F.ops p.locator p.sums.items p.traces.items) }
-    ensures part { (first : ℕ) (es : List F) → IsSet F.ops es → locator ≡ with_roots F.ops es → take (2 * length es) sums.items ≡ every_sum F.ops es 1 (2 * length es)
+    ensures fits { IfOk result (λ p. HasFittingSizes F.ops p.locator p.sums.items p.traces.items) }
+    ensures part { (first : ℕ) (es : List F) → IsSet F.ops es → locator ≡ with_roots F.ops es → take (2 * length es) sums.items ≡ power_sums F.ops es 1 (2 * length es)
         → AreTraces F.ops F.bits_of F.BITS first es traces.now → IfOk result (λ p. IsPart F.ops F.bits_of F.BITS first es p.locator p.sums.items p.traces.items) }
 {
     let mut sums = sums;

@@ -2,7 +2,7 @@
 
 ghost use Rattle.std.specs.Prelude.{◌≡◌, ℕ, ◌*◌, ◌≤◌, List, length, map, IfOk, IfSome, IsSome, OnOk};
 ghost use Rattle.std.specs.List.Sorted.{IsPermutation};
-ghost use Rattle.sketch_rules.specs.PowerSums.{IsAllSums, every_sum};
+ghost use Rattle.sketch_rules.specs.PowerSums.{IsAllSums, power_sums};
 ghost use Rattle.sketch_rules.specs.Sketches.{IsCapacity};
 ghost use Rattle.sketch_rules.specs.Answers.{answer_at};
 ghost use Rattle.poly_rules.specs.Recurrences.{IsShortest};
@@ -49,8 +49,8 @@ fn candidates<F: Field>(
 ) -> Result<Option<Vec<F>>, OutOfMemory>
     requires shortest { IsShortest F.ops locator.now sums.now }
     requires fits { 2 * length locator.now ≤ length sums.now }
-    ensures found { (es : List F) → IsSet F.ops es → 2 * length es ≤ length sums.now → sums.now ≡ every_sum F.ops es 1 (length sums.now) → IfOk result IsSome }
-    ensures members { (es : List F) → IsSet F.ops es → 2 * length es ≤ length sums.now → sums.now ≡ every_sum F.ops es 1 (length sums.now)
+    ensures found { (es : List F) → IsSet F.ops es → 2 * length es ≤ length sums.now → sums.now ≡ power_sums F.ops es 1 (length sums.now) → IfOk result IsSome }
+    ensures members { (es : List F) → IsSet F.ops es → 2 * length es ≤ length sums.now → sums.now ≡ power_sums F.ops es 1 (length sums.now)
         → IfOk result (λ found. IfSome found (λ v. IsPermutation es v.items)) }
 {
     let n = locator.length();

@@ -83,17 +83,17 @@ fn is_none_or_the_same(alloc: Global, set: &[u32], capacity: usize) -> Result<bo
     Ok(found.len() <= capacity && other.sums() == sketch.sums())
 }
 
-/// A number that looks random. It is another one for each place, and 0 at place 0 alone.
-fn scrambled(place: u32) -> u32 {
-    let first = place.wrapping_mul(0x9e37_79b1);
+/// A number that looks random. It is another one for each index, and 0 at index 0 alone.
+fn scrambled(index: u32) -> u32 {
+    let first = index.wrapping_mul(0x9e37_79b1);
     let second = (first ^ (first >> 15)).wrapping_mul(0x85eb_ca77);
     second ^ (second >> 13)
 }
 
-/// As many numbers from the place on, ascending.
-fn random_set(alloc: Global, place: u32, size: usize) -> Result<Vec<u32>, OutOfMemory> {
+/// As many numbers from the index on, ascending.
+fn random_set(alloc: Global, index: u32, size: usize) -> Result<Vec<u32>, OutOfMemory> {
     let mut set = Vec::with_capacity(alloc, size)?;
-    let mut next = place;
+    let mut next = index;
     for _ in 0..size {
         set.push(scrambled(next))?;
         next = next.wrapping_add(1);

@@ -2,7 +2,7 @@
 
 ghost use Rattle.std.specs.Prelude.{◌≡◌, ℕ, ◌+◌, ◌<◌, ◌≤◌, List, [], length, get_or, replicate, IfOk, IfSome, IsSome, IsTrue};
 ghost use Rattle.std.specs.List.{All};
-ghost use Rattle.poly_rules.specs.Polynomials.{degree, IsMonic, Same};
+ghost use Rattle.poly_rules.specs.Polynomials.{degree, IsMonic, IsSamePolynomial};
 ghost use Rattle.poly_rules.specs.Remainders.{IsRemainder};
 ghost use Rattle.poly_rules.specs.Roots.{with_roots};
 ghost use Rattle.trace_roots.specs.Parts.{IsSet, ArePolynomials, AreTraces};
@@ -27,7 +27,7 @@ fn trace_polynomial<F: Field>(
 ) -> Result<Poly<F>, OutOfMemory>
     requires size { F.BITS ≤ length table.now }
     requires within { All (λ r. length r ≤ n) table.now }
-    ensures same { IfOk result (λ t. Same F.ops t (spec.trace_polynomial F.ops b F.BITS table.now)) }
+    ensures same { IfOk result (λ t. IsSamePolynomial F.ops t (spec.trace_polynomial F.ops b F.BITS table.now)) }
     ensures no_longer { IfOk result (λ t. length t ≤ n) }
 {
     let mut sum = zeros(alloc, n)?;
@@ -40,7 +40,7 @@ fn add_trace<F: Field>(sum: &mut [F], table: &[Poly<F>], b: F)
     requires zeros { sum.old ≡ replicate (length sum.old) F.ops.zero }
     requires size { F.BITS ≤ length table.now }
     requires within { All (λ r. length r ≤ length sum.old) table.now }
-    ensures { Same F.ops sum.new (spec.trace_polynomial F.ops b F.BITS table.now) }
+    ensures { IsSamePolynomial F.ops sum.new (spec.trace_polynomial F.ops b F.BITS table.now) }
 {
     let mut power = b;
     for i in 0..F::BITS {
@@ -49,19 +49,19 @@ fn add_trace<F: Field>(sum: &mut [F], table: &[Poly<F>], b: F)
     }
 }
 
-/// The trace polynomials modulo `f` of the next places, or none where `f` can't be the polynomial of a set: where it
+/// The trace polynomials modulo `f` of the next exponents, or none where `f` can't be the polynomial of a set: where it
 /// is, `x ^ (2 ^ BITS)` and x have the same values at its roots.
 pub fn traces_from<F: Field>(
     alloc: Global,
     f: &Poly<F>,
-    place: u32,
+    exponent: u32,
 ) -> Result<Option<Vec<Poly<F>>>, OutOfMemory>
     requires monic { IsMonic F.ops (degree f.now) f.now }
     requires degree { 1 ≤ degree f.now }
-    requires place { place < F.BITS }
+    requires exponent { exponent < F.BITS }
     ensures lower { IfOk result (λ found. IfSome found (λ traces. All (λ t. length t ≤ degree f.now) traces.items)) }
     ensures some { IfOk result (λ found. IfSome found (λ traces. 0 < length traces.items)) }
-    ensures traces { (es : List F) → IsSet F.ops es → f.now ≡ with_roots F.ops es → IfOk result (λ found. IfSome found (λ traces. AreTraces F.ops F.bits_of F.BITS place es traces.items)) }
+    ensures traces { (es : List F) → IsSet F.ops es → f.now ≡ with_roots F.ops es → IfOk result (λ found. IfSome found (λ traces. AreTraces F.ops F.bits_of F.BITS exponent es traces.items)) }
     ensures found { (es : List F) → IsSet F.ops es → f.now ≡ with_roots F.ops es → IfOk result IsSome }
 {
     let table = frobenius_table(alloc, f)?;
@@ -69,35 +69,35 @@ pub fn traces_from<F: Field>(
         return Ok(None);
     }
     let n = f.coeffs().len() - 1;
-    let traces = trace_polynomials(alloc, table.as_slice(), n, place)?;
+    let traces = trace_polynomials(alloc, table.as_slice(), n, exponent)?;
     Ok(Some(traces))
 }
 
 /// Whether the last power of the table is x again.
 fn returns<F: Field>(table: &[Poly<F>]) -> bool
     requires { F.BITS < length table.now }
-    ensures { Same F.ops (get_or table.now 0 []) (get_or table.now F.BITS []) → IsTrue result }
+    ensures { IsSamePolynomial F.ops (get_or table.now 0 []) (get_or table.now F.BITS []) → IsTrue result }
 {
     table[0].coeffs() == table[F::BITS as usize].coeffs()
 }
 
-/// The trace polynomials of the next places.
+/// The trace polynomials of the next exponents.
 fn trace_polynomials<F: Field>(
     alloc: Global,
     table: &[Poly<F>],
     n: usize,
-    place: u32,
+    exponent: u32,
 ) -> Result<Vec<Poly<F>>, OutOfMemory>
     requires size { F.BITS ≤ length table.now }
     requires within { All (λ r. length r ≤ n) table.now }
-    requires place { place < F.BITS }
+    requires exponent { exponent < F.BITS }
     ensures lower { IfOk result (λ traces. All (λ t. length t ≤ n) traces.items) }
     ensures some { IfOk result (λ traces. 0 < length traces.items) }
-    ensures each { IfOk result (λ traces. ArePolynomials F.ops F.bits_of F.BITS place table.now traces.items) }
+    ensures each { IfOk result (λ traces. ArePolynomials F.ops F.bits_of F.BITS exponent table.now traces.items) }
 {
-    let end = F::BITS.min(place.saturating_add(TRACES_AT_A_TIME));
-    let mut traces = Vec::with_capacity(alloc, (end - place) as usize)?;
-    for j in place..end {
+    let end = F::BITS.min(exponent.saturating_add(TRACES_AT_A_TIME));
+    let mut traces = Vec::with_capacity(alloc, (end - exponent) as usize)?;
+    for j in exponent..end {
         let trace = trace_polynomial(alloc, table, F::basis(j), n)?;
         traces.push(trace)?;
     }

@@ -2,8 +2,8 @@
 
 ghost use Rattle.std.specs.Prelude.{◌≡◌, ◌+◌, ◌≤◌, length, replicate, IfOk};
 ghost use Rattle.field_rules.specs.Fields.{with_multiple};
-ghost use Rattle.splitting_laws.specs.Parts.{IsWindows};
-ghost use Rattle.trace_roots.specs.Added.{AreAdded};
+ghost use Rattle.splitting_laws.specs.Parts.{IsCorrelation};
+ghost use Rattle.trace_roots.specs.Added.{IsItemwiseSum};
 
 use base_types::OutOfMemory;
 use field_core::Field;
@@ -16,7 +16,7 @@ pub fn zeros<F: Field>(alloc: Global, n: usize) -> Result<Vec<F>, OutOfMemory>
     Ok(vec![in alloc; F::ZERO; n]?)
 }
 
-/// For each k below n the sum of the products of `coefficients` with the sums from place k on.
+/// For each k below n the sum of the products of `coefficients` with the sums from index k on.
 pub fn windows<F: Field>(
     alloc: Global,
     coefficients: &[F],
@@ -24,7 +24,7 @@ pub fn windows<F: Field>(
     n: usize,
 ) -> Result<Vec<F>, OutOfMemory>
     requires { n + length coefficients.now ≤ length sums.now }
-    ensures { IfOk result (λ v. IsWindows F.ops coefficients.now sums.now n v.items) }
+    ensures { IfOk result (λ v. IsCorrelation F.ops coefficients.now sums.now n v.items) }
 {
     let mut products = zeros(alloc, n)?;
     add_windows(products.as_mut_slice(), coefficients, sums);
@@ -35,7 +35,7 @@ pub fn windows<F: Field>(
 fn add_windows<F: Field>(products: &mut [F], coefficients: &[F], sums: &[F])
     requires zeros { products.old ≡ replicate (length products.old) F.ops.zero }
     requires fits { length products.old + length coefficients.now ≤ length sums.now }
-    ensures { IsWindows F.ops coefficients.now sums.now (length products.old) products.new }
+    ensures { IsCorrelation F.ops coefficients.now sums.now (length products.old) products.new }
 {
     for (i, coefficient) in coefficients.iter().enumerate() {
         let window = &sums[i..i + products.len()];
@@ -43,17 +43,17 @@ fn add_windows<F: Field>(products: &mut [F], coefficients: &[F], sums: &[F])
     }
 }
 
-/// The items of the first list, each added to the one at its place in the second.
+/// The items of the first list, each added to the one at its index in the second.
 pub fn added<F: Field>(alloc: Global, first: &[F], second: &[F]) -> Result<Vec<F>, OutOfMemory>
     requires { length first.now ≤ length second.now }
-    ensures { IfOk result (λ v. AreAdded F.ops first.now second.now v.items) }
+    ensures { IfOk result (λ v. IsItemwiseSum F.ops first.now second.now v.items) }
 {
     let mut both = Vec::from_slice(alloc, first)?;
     F::axpy(both.as_mut_slice(), F::ONE, &second[..first.len()]);
     Ok(both)
 }
 
-/// Adds `k` times each item to the one at its place in a list that may be longer.
+/// Adds `k` times each item to the one at its index in a list that may be longer.
 pub fn add_multiple<F: Field>(acc: &mut [F], k: F, items: &[F])
     requires { length items.now ≤ length acc.old }
     ensures { acc.new ≡ with_multiple F.ops acc.old k items.now }

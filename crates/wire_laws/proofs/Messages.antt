@@ -5,9 +5,9 @@ use Rattle.std.specs.Int.{w16, w32, w64, to_le_bytes}
 use Rattle.std.proofs.lemmas.Bool.{ltb-true, leb-true}
 use Rattle.id_rules.specs.Bytes.{is_tx_length}
 use Rattle.wire_rules.specs.Commands.{word_of, command_of, is_command, name_at}
-use Rattle.wire_rules.specs.Layout.{compact_size, counted, diff_payload, entry_bytes, flag_byte, frame_of, inventory, named, optional_byte, signed_bytes, version_payload}
-use Rattle.wire_rules.specs.Limits.{IsMessage, in_range, is_entry, within_limits}
-use Rattle.wire_rules.specs.Reading.{diff_in, ended, entry_at, inventory_in, message_by, message_of, named_in, number_at, number_in, request_in, salt_in, sketch_in, tx_in, version_in, with_command}
+use Rattle.wire_rules.specs.Layout.{compact_size, counted_bytes, diff_payload, entry_bytes, flag_byte, frame_of, inventory, named_frame, optional_byte, signed_bytes, version_payload}
+use Rattle.wire_rules.specs.Limits.{IsMessage, is_in_range, is_entry, is_within_limits}
+use Rattle.wire_rules.specs.Reading.{diff_in, message_at_end, entry_at, inventory_in, message_by, message_of, message_in, number_at, number_in, request_in, salt_in, sketch_in, tx_in, version_in, with_command}
 use Rattle.wire_rules.specs.declared.faults.PayloadFault.{PayloadFault}
 use Rattle.wire_rules.specs.declared.limits.TheConstants.{LIST_LIMIT, AGENT_LIMIT, PAYLOAD_LIMIT}
 use Rattle.wire_rules.specs.declared.message.InvEntry.{InvEntry}
@@ -17,7 +17,7 @@ use Rattle.wire_rules.specs.declared.message.VersionMsg.{VersionMsg}
 use Rattle.wire_rules.specs.declared.name.Name.{Name}
 use Rattle.wire_rules.specs.declared.name.Name.TheVariants as name
 use Rattle.wire_laws.proofs.Parts.{VersionRanges, both_hold, of_length, version_ranges}
-use Rattle.wire_laws.proofs.Readers.{then_so, bytes_at-front, number_at-16, number_at-32, number_at-64, signed_at-32, signed_at-64, counted_at-front, counted_bytes-front, short-front, entry-front, flag-front, optional-front}
+use Rattle.wire_laws.proofs.Readers.{then_so, bytes_at-front, number_at-16, number_at-32, number_at-64, signed_at-32, signed_at-64, counted_items_at-front, counted_bytes-front, short-front, entry-front, flag-front, optional-front}
 
 -- each command that is known is found under its name
 pub name_at-command : (n : Name) → name_at (command_of n) ≡ Some n
@@ -38,40 +38,40 @@ name_at-command name.Ping = refl
 name_at-command name.Pong = refl
 
 -- the message of a frame of a known command is what its payload says
-named-says : (n : Name) (payload : List ℕ) (m : Message) → named_in n payload ≡ Ok m → message_of (named n payload) ≡ Ok m
-named-says n payload m e = ap (λ o. message_by o (named n payload)) (name_at-command n) ∙ ap (with_command n) e
+named_frame-says : (n : Name) (payload : List ℕ) (m : Message) → message_in n payload ≡ Ok m → message_of (named_frame n payload) ≡ Ok m
+named_frame-says n payload m e = ap (λ o. message_by o (named_frame n payload)) (name_at-command n) ∙ ap (with_command n) e
 
 -- ---- payloads
 
 salt-says : (version salt : ℕ) → version < 2 ^ 32 → salt < 2 ^ 64 → salt_in (to_le_bytes w32 version ++ to_le_bytes w64 salt) ≡ Ok (message.SendTxRcncl version salt)
-unfolding salt_in ended
+unfolding salt_in message_at_end
 salt-says version salt hv hs = then_so _ _ _ _ (number_at-32 0 version (to_le_bytes w64 salt) hv) (then_so _ _ _ _ (number_at-64 4 salt [] hs) refl)
 
 request-says : (size q : ℕ) → size < 2 ^ 16 → q < 2 ^ 16 → request_in (to_le_bytes w16 size ++ to_le_bytes w16 q) ≡ Ok (message.ReqRecon size q)
-unfolding request_in ended
+unfolding request_in message_at_end
 request-says size q hs hq = then_so _ _ _ _ (number_at-16 0 size (to_le_bytes w16 q) hs) (then_so _ _ _ _ (number_at-16 2 q [] hq) refl)
 
 number-says : (made : ℕ → Message) (n : ℕ) → n < 2 ^ 64 → number_in made (to_le_bytes w64 n) ≡ Ok (made n)
-unfolding number_in ended
+unfolding number_in message_at_end
 number-says made n h = then_so _ _ _ _ (number_at-64 0 n [] h) refl
 
-sketch-says : (bytes : List ℕ) → length bytes ≤ LIST_LIMIT → sketch_in (counted bytes) ≡ Ok (message.Sketch bytes)
-unfolding sketch_in ended
+sketch-says : (bytes : List ℕ) → length bytes ≤ LIST_LIMIT → sketch_in (counted_bytes bytes) ≡ Ok (message.Sketch bytes)
+unfolding sketch_in message_at_end
 sketch-says bytes h =
     let reads = counted_bytes-front LIST_LIMIT bytes 0 [] h (lit< tt) in
-    ap sketch_in (sym (append-nil (counted bytes))) ∙ then_so _ _ _ _ reads.1 refl
+    ap sketch_in (sym (append-nil (counted_bytes bytes))) ∙ then_so _ _ _ _ reads.1 refl
 
 inventory-says : (made : List InvEntry → Message) (es : List InvEntry) → length es ≤ LIST_LIMIT → list_all is_entry es ≡ true → inventory_in made (inventory es) ≡ Ok (made es)
-unfolding inventory_in ended
+unfolding inventory_in message_at_end
 inventory-says made es within h =
-    let reads = counted_at-front entry_at entry_bytes is_entry entry-front es 0 [] within h in
+    let reads = counted_items_at-front entry_at entry_bytes is_entry entry-front es 0 [] within h in
     ap (inventory_in made) (sym (append-nil (inventory es))) ∙ then_so _ _ _ _ reads.1 refl
 
 diff-says : (success : Bool) (asks : List ℕ) → length asks ≤ LIST_LIMIT → list_all (λ n. nat_lt n (2 ^ 32)) asks ≡ true → diff_in (diff_payload success asks) ≡ Ok (message.ReconcilDiff success asks)
-unfolding diff_in ended
+unfolding diff_in message_at_end
 diff-says success asks within h =
     let behind = compact_size (length asks) ++ flat_map (to_le_bytes w32) asks in
-    let reads = counted_at-front (number_at w32) (to_le_bytes w32) (λ n. nat_lt n (2 ^ 32)) short-front asks 1 [] within h in
+    let reads = counted_items_at-front (number_at w32) (to_le_bytes w32) (λ n. nat_lt n (2 ^ 32)) short-front asks 1 [] within h in
     ap (λ rest. diff_in (flag_byte success ∷ rest)) (sym (append-nil behind))
     ∙ then_so _ _ _ _ (flag-front success 0 (behind ++ [])) (then_so _ _ _ _ reads.1 refl)
 
@@ -85,17 +85,17 @@ in_order : (r s n c h y : List ℕ) → r ++ s ++ n ++ c ++ h ++ y ≡ r ++ (s +
 in_order r s n c h y = simp append_assoc
 
 version-says : (v : VersionMsg) → length v.agent ≤ AGENT_LIMIT → VersionRanges v → version_in (version_payload v) ≡ Ok (message.Version v)
-unfolding version_in ended
+unfolding version_in message_at_end
 version-says v within ranges =
     let height = signed_bytes w32 v.height in
     let relay = optional_byte v.relay in
-    let from_agent = counted v.agent ++ (height ++ relay) in
+    let from_agent = counted_bytes v.agent ++ (height ++ relay) in
     let from_nonce = to_le_bytes w64 v.nonce ++ from_agent in
     let from_receiver = v.receiver ++ (v.sender ++ from_nonce) in
     let agent = counted_bytes-front AGENT_LIMIT v.agent 80 (height ++ relay) within (lit< tt) in
     let last = optional-front v.relay (agent.0 + 4) in
     ap (λ rest. version_in (signed_bytes w32 v.version ++ (to_le_bytes w64 v.services ++ (signed_bytes w64 v.time ++ rest))))
-    (in_order v.receiver v.sender (to_le_bytes w64 v.nonce) (counted v.agent) height relay)
+    (in_order v.receiver v.sender (to_le_bytes w64 v.nonce) (counted_bytes v.agent) height relay)
     ∙ then_so _ _ _ _ (signed_at-32 0 v.version (to_le_bytes w64 v.services ++ (signed_bytes w64 v.time ++ from_receiver)) ranges.version)
     (then_so _ _ _ _ (number_at-64 4 v.services (signed_bytes w64 v.time ++ from_receiver) (ltb-true v.services (2 ^ 64) ranges.services))
     (then_so _ _ _ _ (signed_at-64 12 v.time from_receiver ranges.time)
@@ -115,26 +115,26 @@ other-says : (command payload : List ℕ) → not (is_some (name_at command)) �
 other-says command payload h = ap (λ o. message_by o (record { command = command; payload = payload })) (none_of (name_at command) h)
 
 -- by the two tests of what may be sent
-read_back : (m : Message) → within_limits m ≡ true → in_range m ≡ true → message_of (frame_of m) ≡ Ok m
-unfolding frame_of within_limits in_range named_in ended
-read_back (message.Version v) w r = named-says name.Version (version_payload v) (message.Version v) (version-says v (leb-true (length v.agent) AGENT_LIMIT w) (version_ranges v r))
-read_back message.Verack w r = named-says name.Verack [] message.Verack refl
-read_back message.WtxidRelay w r = named-says name.WtxidRelay [] message.WtxidRelay refl
+read_back : (m : Message) → is_within_limits m ≡ true → is_in_range m ≡ true → message_of (frame_of m) ≡ Ok m
+unfolding frame_of is_within_limits is_in_range message_in message_at_end
+read_back (message.Version v) w r = named_frame-says name.Version (version_payload v) (message.Version v) (version-says v (leb-true (length v.agent) AGENT_LIMIT w) (version_ranges v r))
+read_back message.Verack w r = named_frame-says name.Verack [] message.Verack refl
+read_back message.WtxidRelay w r = named_frame-says name.WtxidRelay [] message.WtxidRelay refl
 read_back (message.SendTxRcncl version salt) w r =
     let tests = both_hold (nat_lt version (2 ^ 32)) (nat_lt salt (2 ^ 64)) r in
-    named-says name.SendTxRcncl (to_le_bytes w32 version ++ to_le_bytes w64 salt) (message.SendTxRcncl version salt) (salt-says version salt (ltb-true version (2 ^ 32) tests.0) (ltb-true salt (2 ^ 64) tests.1))
+    named_frame-says name.SendTxRcncl (to_le_bytes w32 version ++ to_le_bytes w64 salt) (message.SendTxRcncl version salt) (salt-says version salt (ltb-true version (2 ^ 32) tests.0) (ltb-true salt (2 ^ 64) tests.1))
 read_back (message.ReqRecon size q) w r =
     let tests = both_hold (nat_lt size (2 ^ 16)) (nat_lt q (2 ^ 16)) r in
-    named-says name.ReqRecon (to_le_bytes w16 size ++ to_le_bytes w16 q) (message.ReqRecon size q) (request-says size q (ltb-true size (2 ^ 16) tests.0) (ltb-true q (2 ^ 16) tests.1))
-read_back (message.Sketch bytes) w r = named-says name.Sketch (counted bytes) (message.Sketch bytes) (sketch-says bytes (leb-true (length bytes) LIST_LIMIT w))
-read_back message.ReqSketchExt w r = named-says name.ReqSketchExt [] message.ReqSketchExt refl
-read_back (message.ReconcilDiff success asks) w r = named-says name.ReconcilDiff (diff_payload success asks) (message.ReconcilDiff success asks) (diff-says success asks (leb-true (length asks) LIST_LIMIT w) r)
-read_back (message.Inv es) w r = named-says name.Inv (inventory es) (message.Inv es) (inventory-says message.Inv es (leb-true (length es) LIST_LIMIT w) r)
-read_back (message.GetData es) w r = named-says name.GetData (inventory es) (message.GetData es) (inventory-says message.GetData es (leb-true (length es) LIST_LIMIT w) r)
-read_back (message.NotFound es) w r = named-says name.NotFound (inventory es) (message.NotFound es) (inventory-says message.NotFound es (leb-true (length es) LIST_LIMIT w) r)
-read_back (message.Tx tx) w r = named-says name.Tx tx (message.Tx tx) (tx-says tx w)
-read_back (message.Ping n) w r = named-says name.Ping (to_le_bytes w64 n) (message.Ping n) (number-says message.Ping n (ltb-true n (2 ^ 64) r))
-read_back (message.Pong n) w r = named-says name.Pong (to_le_bytes w64 n) (message.Pong n) (number-says message.Pong n (ltb-true n (2 ^ 64) r))
+    named_frame-says name.ReqRecon (to_le_bytes w16 size ++ to_le_bytes w16 q) (message.ReqRecon size q) (request-says size q (ltb-true size (2 ^ 16) tests.0) (ltb-true q (2 ^ 16) tests.1))
+read_back (message.Sketch bytes) w r = named_frame-says name.Sketch (counted_bytes bytes) (message.Sketch bytes) (sketch-says bytes (leb-true (length bytes) LIST_LIMIT w))
+read_back message.ReqSketchExt w r = named_frame-says name.ReqSketchExt [] message.ReqSketchExt refl
+read_back (message.ReconcilDiff success asks) w r = named_frame-says name.ReconcilDiff (diff_payload success asks) (message.ReconcilDiff success asks) (diff-says success asks (leb-true (length asks) LIST_LIMIT w) r)
+read_back (message.Inv es) w r = named_frame-says name.Inv (inventory es) (message.Inv es) (inventory-says message.Inv es (leb-true (length es) LIST_LIMIT w) r)
+read_back (message.GetData es) w r = named_frame-says name.GetData (inventory es) (message.GetData es) (inventory-says message.GetData es (leb-true (length es) LIST_LIMIT w) r)
+read_back (message.NotFound es) w r = named_frame-says name.NotFound (inventory es) (message.NotFound es) (inventory-says message.NotFound es (leb-true (length es) LIST_LIMIT w) r)
+read_back (message.Tx tx) w r = named_frame-says name.Tx tx (message.Tx tx) (tx-says tx w)
+read_back (message.Ping n) w r = named_frame-says name.Ping (to_le_bytes w64 n) (message.Ping n) (number-says message.Ping n (ltb-true n (2 ^ 64) r))
+read_back (message.Pong n) w r = named_frame-says name.Pong (to_le_bytes w64 n) (message.Pong n) (number-says message.Pong n (ltb-true n (2 ^ 64) r))
 read_back (message.Other command payload) w r =
     let known = both_hold (is_command command && not (is_some (name_at command))) (nat_le (length payload) PAYLOAD_LIMIT) w in
     other-says command payload (both_hold (is_command command) (not (is_some (name_at command))) known.0).1

@@ -6,7 +6,7 @@ use Rattle.std.proofs.lemmas.Bool.{eqb-true, le-leb}
 use Rattle.std.proofs.lemmas.List.Folds.{list_all-append}
 use Rattle.std.proofs.lemmas.Cmp.{nat_list_eq_equiv}
 use Rattle.id_rules.specs.Bytes.{are_bytes, are_bytes_of, fits_signed, is_optional_byte}
-use Rattle.wire_rules.specs.Limits.{version_in_range}
+use Rattle.wire_rules.specs.Limits.{is_version_in_range}
 use Rattle.wire_rules.specs.declared.message.VersionMsg.{VersionMsg}
 
 pub take_front : {A : Type 0} (n : ℕ) (xs ys : List A) → length xs ≡ n → take n (xs ++ ys) ≡ xs
@@ -59,7 +59,7 @@ pub record VersionRanges (v : VersionMsg) : Type 0 where
   pub height : fits_signed 31 v.height ≡ true
   pub relay : is_optional_byte v.relay ≡ true
 
-pub version_ranges : (v : VersionMsg) → version_in_range v ≡ true → VersionRanges v
+pub version_ranges : (v : VersionMsg) → is_version_in_range v ≡ true → VersionRanges v
 version_ranges v h =
     let with_height = both_hold _ (is_optional_byte v.relay) h in
     let with_agent = both_hold _ (fits_signed 31 v.height) with_height.0 in

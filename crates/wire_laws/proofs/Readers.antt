@@ -7,8 +7,8 @@ use Rattle.std.proofs.lemmas.Int.{to_z-of_z}
 use Rattle.std.proofs.lemmas.List.{length-append}
 use Rattle.std.proofs.lemmas.Nat.{from_le_bytes-to_le_bytes_2, from_le_bytes-to_le_bytes_4, from_le_bytes-to_le_bytes_8}
 use Rattle.id_rules.specs.Bytes.{are_bytes_of, fits_signed}
-use Rattle.wire_rules.specs.Reading.{Spot, Cursor, Read, ◌>>=◌, bytes_at, number_at, signed_at, count_at, behind_mark, wrong, many_at, counted_at, counted_bytes_at, entry_at, flag_at, optional_at}
-use Rattle.wire_rules.specs.Layout.{compact_size, counted, entry_bytes, flag_byte, optional_byte, signed_bytes}
+use Rattle.wire_rules.specs.Reading.{FieldFault, Cursor, FieldReading, ◌>>=◌, bytes_at, number_at, signed_at, count_at, number_by_mark, fault_at, items_at, counted_items_at, counted_bytes_at, entry_at, flag_at, optional_at}
+use Rattle.wire_rules.specs.Layout.{compact_size, counted_bytes, entry_bytes, flag_byte, optional_byte, signed_bytes}
 use Rattle.wire_rules.specs.Limits.{is_entry}
 use Rattle.wire_rules.specs.declared.limits.TheConstants.{LIST_LIMIT}
 use Rattle.wire_rules.specs.declared.message.InvEntry.{InvEntry}
@@ -20,7 +20,7 @@ abbrev pub cursor : ℕ → List ℕ → Cursor
 cursor at rest = record { at = at; rest = rest }
 
 -- goes on behind what was read
-pub then_so : {A B : Type 0} (r : Result A Spot) (a : A) (next : A → Result B Spot) (out : Result B Spot) → r ≡ Ok a → next a ≡ out → (r >>= next) ≡ out
+pub then_so : {A B : Type 0} (r : Result A FieldFault) (a : A) (next : A → Result B FieldFault) (out : Result B FieldFault) → r ≡ Ok a → next a ≡ out → (r >>= next) ≡ out
 then_so r a next out e f = ap (λ x. x >>= next) e ∙ f
 
 -- bytes that stand in front
@@ -85,7 +85,7 @@ byte_front : (at b : ℕ) (ys : List ℕ) → number_at w8 (cursor at (b ∷ ys)
 byte_front at b ys = then_so _ _ _ _ (bytes_at-front 1 at (b ∷ []) ys refl) refl
 
 -- a count that isn't above its limit
-within_limit : (limit at n : ℕ) (c : Cursor) → n ≤ limit → (if nat_lt limit n then wrong {A = ℕ × Cursor} at fault.TooMany else Ok (n, c)) ≡ Ok (n, c)
+within_limit : (limit at n : ℕ) (c : Cursor) → n ≤ limit → (if nat_lt limit n then fault_at {A = ℕ × Cursor} at fault.TooMany else Ok (n, c)) ≡ Ok (n, c)
 within_limit limit at n c within = rw (lt-leb (suc limit) n (omega arith)) refl
 
 -- a byte below 0xFD is its own count
@@ -94,7 +94,7 @@ unfolding count_at
 count_small limit at n ys small within =
     then_so _ _ _ _ (byte_front at n ys) (then_so _ _ _ _ unmarked (within_limit limit at n (cursor (at + 1) ys) within))
   where
-    unmarked : behind_mark at n (cursor (at + 1) ys) ≡ Ok (n, cursor (at + 1) ys)
+    unmarked : number_by_mark at n (cursor (at + 1) ys) ≡ Ok (n, cursor (at + 1) ys)
     unmarked = no_mark (n == 0xFD) (n == 0xFE) (n == 0xFF) _ _ _ _ (ne_eqb n 0xFD (λ e. omega (arith, small, e))) (ne_eqb n 0xFE (λ e. omega (arith, small, e))) (ne_eqb n 0xFF (λ e. omega (arith, small, e)))
 
 -- a count behind the mark of two bytes
@@ -103,10 +103,10 @@ unfolding count_at
 count_marked limit at n ys least below within =
     then_so _ _ _ _ (byte_front at 0xFD (to_le_bytes w16 n ++ ys)) (then_so _ _ _ _ marked (within_limit limit at n (cursor (at + 1 + 2) ys) within))
   where
-    minimal : (if nat_lt n 0xFD then wrong {A = ℕ × Cursor} at fault.NotMinimal else Ok (n, cursor (at + 1 + 2) ys)) ≡ Ok (n, cursor (at + 1 + 2) ys)
+    minimal : (if nat_lt n 0xFD then fault_at {A = ℕ × Cursor} at fault.NotMinimal else Ok (n, cursor (at + 1 + 2) ys)) ≡ Ok (n, cursor (at + 1 + 2) ys)
     minimal = rw (lt-leb (suc n) 0xFD (omega (arith, least))) refl
 
-    marked : behind_mark at 0xFD (cursor (at + 1) (to_le_bytes w16 n ++ ys)) ≡ Ok (n, cursor (at + 1 + 2) ys)
+    marked : number_by_mark at 0xFD (cursor (at + 1) (to_le_bytes w16 n ++ ys)) ≡ Ok (n, cursor (at + 1 + 2) ys)
     marked = then_so _ _ _ _ (number_at-16 (at + 1) n ys below) minimal
 
 -- a count that stands in front, up to a limit of two bytes
@@ -126,34 +126,34 @@ count_at-front limit at n ys within low =
 
 -- ---- items in a row
 
-module _ {A : Type 0} (item : Cursor → Read A) (spell : A → List ℕ) (test : A → Bool)
+module _ {A : Type 0} (item : Cursor → FieldReading A) (spell : A → List ℕ) (test : A → Bool)
     (reads : (x : A) (at : ℕ) (ys : List ℕ) → test x ≡ true → (next : ℕ) × (item (cursor at (spell x ++ ys)) ≡ Ok (x, cursor next ys))) where
-  pub many_at-front : (xs : List A) (at : ℕ) (ys : List ℕ) → list_all test xs ≡ true → (next : ℕ) × (many_at item (length xs) (cursor at (flat_map spell xs ++ ys)) ≡ Ok (xs, cursor next ys))
-  unfolding many_at
-  many_at-front [] at ys h = (at, refl)
-  many_at-front (x ∷ xs) at ys h =
+  pub items_at-front : (xs : List A) (at : ℕ) (ys : List ℕ) → list_all test xs ≡ true → (next : ℕ) × (items_at item (length xs) (cursor at (flat_map spell xs ++ ys)) ≡ Ok (xs, cursor next ys))
+  unfolding items_at
+  items_at-front [] at ys h = (at, refl)
+  items_at-front (x ∷ xs) at ys h =
       let tests = both_hold (test x) (list_all test xs) h in
       let one = reads x at (flat_map spell xs ++ ys) tests.0 in
-      let more = many_at-front xs one.0 ys tests.1 in (
+      let more = items_at-front xs one.0 ys tests.1 in (
         more.0,
-        ap (λ bytes. many_at item (suc (length xs)) (cursor at bytes)) (append_assoc (spell x) (flat_map spell xs) ys)
+        ap (λ bytes. items_at item (suc (length xs)) (cursor at bytes)) (append_assoc (spell x) (flat_map spell xs) ys)
             ∙ then_so _ _ _ _ one.1 (then_so _ _ _ _ more.1 refl),
       )
 
   -- the same behind their count
-  pub counted_at-front : (xs : List A) (at : ℕ) (ys : List ℕ) → length xs ≤ LIST_LIMIT → list_all test xs ≡ true
-      → (next : ℕ) × (counted_at item (cursor at (compact_size (length xs) ++ flat_map spell xs ++ ys)) ≡ Ok (xs, cursor next ys))
-  counted_at-front xs at ys within h =
+  pub counted_items_at-front : (xs : List A) (at : ℕ) (ys : List ℕ) → length xs ≤ LIST_LIMIT → list_all test xs ≡ true
+      → (next : ℕ) × (counted_items_at item (cursor at (compact_size (length xs) ++ flat_map spell xs ++ ys)) ≡ Ok (xs, cursor next ys))
+  counted_items_at-front xs at ys within h =
       let count = count_at-front LIST_LIMIT at (length xs) (flat_map spell xs ++ ys) within (lit< tt) in
-      let items = many_at-front xs count.0 ys h in (
+      let items = items_at-front xs count.0 ys h in (
         items.0,
-        ap (λ bytes. counted_at item (cursor at bytes)) (append_assoc (compact_size (length xs)) (flat_map spell xs) ys)
+        ap (λ bytes. counted_items_at item (cursor at bytes)) (append_assoc (compact_size (length xs)) (flat_map spell xs) ys)
             ∙ then_so _ _ _ _ count.1 items.1,
       )
 
 -- bytes behind their count
 pub counted_bytes-front : (limit : ℕ) (xs : List ℕ) (at : ℕ) (ys : List ℕ) → length xs ≤ limit → limit < 2 ^ 16
-    → (next : ℕ) × (counted_bytes_at limit (cursor at (counted xs ++ ys)) ≡ Ok (xs, cursor next ys))
+    → (next : ℕ) × (counted_bytes_at limit (cursor at (counted_bytes xs ++ ys)) ≡ Ok (xs, cursor next ys))
 counted_bytes-front limit xs at ys within low =
     let count = count_at-front limit at (length xs) (xs ++ ys) within low in (
       count.0 + length xs,

@@ -6,8 +6,8 @@ use Rattle.std.proofs.lemmas.Bool.{ltb-true, leb-true}
 use Rattle.std.proofs.lemmas.List.{length-append}
 use Rattle.id_rules.specs.Bytes.{are_bytes, are_bytes_of, fits_signed, is_optional_byte}
 use Rattle.wire_rules.specs.Commands.{word_of, is_filled, command_of, is_command, name_at}
-use Rattle.wire_rules.specs.Layout.{compact_size, counted, diff_payload, entry_bytes, flag_byte, frame_of, inventory, named, optional_byte, signed_bytes, version_payload}
-use Rattle.wire_rules.specs.Limits.{IsFrame, IsMessage, in_range, is_entry, within_limits}
+use Rattle.wire_rules.specs.Layout.{compact_size, counted_bytes, diff_payload, entry_bytes, flag_byte, frame_of, inventory, named_frame, optional_byte, signed_bytes, version_payload}
+use Rattle.wire_rules.specs.Limits.{IsFrame, IsMessage, is_in_range, is_entry, is_within_limits}
 use Rattle.wire_rules.specs.declared.limits.TheConstants.{LIST_LIMIT, AGENT_LIMIT, PAYLOAD_LIMIT}
 use Rattle.wire_rules.specs.declared.message.InvEntry.{InvEntry}
 use Rattle.wire_rules.specs.declared.message.Message.{Message}
@@ -111,8 +111,8 @@ fits-count : (n : ℕ) → n < 2 ^ 16 → Fits 3 (compact_size n)
 fits-count n h = record { within = count_length n h; bytes = count_bytes n h }
 
 -- bytes behind their count
-fits-counted : (limit : ℕ) (xs : List ℕ) → length xs ≤ limit → limit < 2 ^ 16 → are_bytes xs ≡ true → Fits (3 + limit) (counted xs)
-fits-counted limit xs within low bytes = fits-append 3 limit (compact_size (length xs)) xs (fits-count (length xs) (omega arith)) (record { within = within; bytes = bytes })
+fits-counted_bytes : (limit : ℕ) (xs : List ℕ) → length xs ≤ limit → limit < 2 ^ 16 → are_bytes xs ≡ true → Fits (3 + limit) (counted_bytes xs)
+fits-counted_bytes limit xs within low bytes = fits-append 3 limit (compact_size (length xs)) xs (fits-count (length xs) (omega arith)) (record { within = within; bytes = bytes })
 
 -- items behind their count
 fits-items : {A : Type 0} (spell : A → List ℕ) (test : A → Bool) → ((x : A) → test x ≡ true → are_bytes (spell x) ≡ true) → ((x : A) → test x ≡ true → length (spell x) ≤ 36)
@@ -151,7 +151,7 @@ fits-version v within ranges =
     let receiver = fits-append 20 26 _ v.receiver time (fits-field 26 v.receiver ranges.receiver) in
     let sender = fits-append 46 26 _ v.sender receiver (fits-field 26 v.sender ranges.sender) in
     let nonce = fits-append 72 8 _ (to_le_bytes w64 v.nonce) sender (fits-64 v.nonce) in
-    let agent = fits-append 80 (3 + AGENT_LIMIT) _ (counted v.agent) nonce (fits-counted AGENT_LIMIT v.agent within (lit< tt) ranges.agent) in
+    let agent = fits-append 80 (3 + AGENT_LIMIT) _ (counted_bytes v.agent) nonce (fits-counted_bytes AGENT_LIMIT v.agent within (lit< tt) ranges.agent) in
     let height = fits-append (83 + AGENT_LIMIT) 4 _ (signed_bytes w32 v.height) agent (fits-32 (cast_unsigned w32 v.height)) in
     let relay = fits-append (87 + AGENT_LIMIT) 1 _ (optional_byte v.relay) height (fits-optional v.relay ranges.relay) in
     fits-more (88 + AGENT_LIMIT) PAYLOAD_LIMIT (version_payload v) (lit≤ tt) relay
@@ -179,11 +179,11 @@ is_command-known name.Tx = refl
 is_command-known name.Ping = refl
 is_command-known name.Pong = refl
 
-frame_with : (n : Name) (payload : List ℕ) → Fits PAYLOAD_LIMIT payload → IsFrame (named n payload)
+frame_with : (n : Name) (payload : List ℕ) → Fits PAYLOAD_LIMIT payload → IsFrame (named_frame n payload)
 frame_with n payload f = record { command = is_command-known n; within = f.within; bytes = f.bytes }
 
-frame_by : (m : Message) → within_limits m ≡ true → in_range m ≡ true → IsFrame (frame_of m)
-unfolding frame_of within_limits in_range
+frame_by : (m : Message) → is_within_limits m ≡ true → is_in_range m ≡ true → IsFrame (frame_of m)
+unfolding frame_of is_within_limits is_in_range
 frame_by (message.Version v) w r = frame_with name.Version (version_payload v) (fits-version v (leb-true (length v.agent) AGENT_LIMIT w) (version_ranges v r))
 frame_by message.Verack w r = frame_with name.Verack [] fits-empty
 frame_by message.WtxidRelay w r = frame_with name.WtxidRelay [] fits-empty
@@ -192,7 +192,7 @@ frame_by (message.SendTxRcncl version salt) w r =
 frame_by (message.ReqRecon size q) w r =
     frame_with name.ReqRecon (to_le_bytes w16 size ++ to_le_bytes w16 q) (fits-more 4 PAYLOAD_LIMIT _ (lit≤ tt) (fits-append 2 2 (to_le_bytes w16 size) (to_le_bytes w16 q) (fits-16 size) (fits-16 q)))
 frame_by (message.Sketch bytes) w r =
-    frame_with name.Sketch (counted bytes) (fits-more (3 + LIST_LIMIT) PAYLOAD_LIMIT (counted bytes) (lit≤ tt) (fits-counted LIST_LIMIT bytes (leb-true (length bytes) LIST_LIMIT w) (lit< tt) r))
+    frame_with name.Sketch (counted_bytes bytes) (fits-more (3 + LIST_LIMIT) PAYLOAD_LIMIT (counted_bytes bytes) (lit≤ tt) (fits-counted_bytes LIST_LIMIT bytes (leb-true (length bytes) LIST_LIMIT w) (lit< tt) r))
 frame_by message.ReqSketchExt w r = frame_with name.ReqSketchExt [] fits-empty
 frame_by (message.ReconcilDiff success asks) w r = frame_with name.ReconcilDiff (diff_payload success asks) (fits-diff success asks (leb-true (length asks) LIST_LIMIT w) r)
 frame_by (message.Inv es) w r = frame_with name.Inv (inventory es) (fits-inventory es (leb-true (length es) LIST_LIMIT w) r)

@@ -5,13 +5,13 @@ use Rattle.std.proofs.lemmas.Bool.{ltb-true, leb-false}
 use Rattle.std.proofs.lemmas.List.{take-append-drop, length-take-le}
 use Rattle.std.proofs.lemmas.Nat.{le_bytes_2, le_bytes_4, le_bytes_8}
 use Rattle.id_rules.specs.Bytes.{are_bytes}
-use Rattle.wire_rules.specs.Reading.{Spot, Cursor, ◌>>=◌, wrong, bytes_at, number_at}
+use Rattle.wire_rules.specs.Reading.{FieldFault, Cursor, ◌>>=◌, fault_at, bytes_at, number_at}
 use Rattle.wire_rules.specs.declared.faults.PayloadKind.TheVariants as fault
 use Rattle.wire_laws.proofs.Parts.{both_hold, bytes_split, le_holds}
 use Rattle.wire_laws.proofs.Readers.{cursor}
 
 -- where two steps in a row say something, the first does, and the second behind it
-pub both_said : {A B : Type 0} (r : Result A Spot) (next : A → Result B Spot) (b : B) → (r >>= next) ≡ Ok b → (a : A) × (r ≡ Ok a) × (next a ≡ Ok b)
+pub both_said : {A B : Type 0} (r : Result A FieldFault) (next : A → Result B FieldFault) (b : B) → (r >>= next) ≡ Ok b → (a : A) × (r ≡ Ok a) × (next a ≡ Ok b)
 both_said (Ok a) next b e = (a, refl, e)
 both_said (Err s) next b e = absurd (cc)
 
@@ -23,7 +23,7 @@ pub record Took (c : Cursor) (xs : List ℕ) (rest : Cursor) : Type 0 where
 
 -- by whether there are too few
 took_by : (few : Bool) (n : ℕ) (c : Cursor) (r : List ℕ × Cursor) → nat_lt (length c.rest) n ≡ few → are_bytes c.rest ≡ true
-    → (if few then wrong (c.at + length c.rest) fault.Short else Ok (take n c.rest, cursor (c.at + n) (drop n c.rest))) ≡ Ok r
+    → (if few then fault_at (c.at + length c.rest) fault.Short else Ok (take n c.rest, cursor (c.at + n) (drop n c.rest))) ≡ Ok r
     → Took c r.0 r.1 × (length r.0 ≡ n)
 took_by true n c r h bytes e = absurd (cc)
 took_by false n c r h bytes e =
@@ -34,7 +34,7 @@ took_by false n c r h bytes e =
     subst (λ (s : List ℕ × Cursor). Took c s.0 s.1 × (length s.0 ≡ n)) same
     (record { whole = split; front = parts.0; left = parts.1 }, length-take-le n c.rest (omega arith))
   where
-    from_ok : (a b : List ℕ × Cursor) → (let x : Result (List ℕ × Cursor) Spot = Ok a in x ≡ Ok b) → a ≡ b
+    from_ok : (a b : List ℕ × Cursor) → (let x : Result (List ℕ × Cursor) FieldFault = Ok a in x ≡ Ok b) → a ≡ b
     from_ok a b e = cc
 
 pub bytes_at-took : (n : ℕ) (c : Cursor) (r : List ℕ × Cursor) → are_bytes c.rest ≡ true → bytes_at n c ≡ Ok r → Took c r.0 r.1 × (length r.0 ≡ n)
@@ -67,7 +67,7 @@ pub record TookNumber (w : Width) (bound : ℕ) (c : Cursor) (r : ℕ × Cursor)
   pub took : Took c (to_le_bytes w r.0) r.1
   pub below : r.0 < bound
 
-pub from_ok : {A : Type 0} (a b : A) (x : Result A Spot) → x ≡ Ok a → x ≡ Ok b → a ≡ b
+pub from_ok : {A : Type 0} (a b : A) (x : Result A FieldFault) → x ≡ Ok a → x ≡ Ok b → a ≡ b
 from_ok a b x e f = cc
 
 number_took : (w : Width) (bound : ℕ) → ((xs : List ℕ) → length xs ≡ byte_len w → are_bytes xs ≡ true → to_le_bytes w (from_le_bytes w xs) ≡ xs) → ((xs : List ℕ) → are_bytes xs ≡ true → from_le_bytes w xs < bound)

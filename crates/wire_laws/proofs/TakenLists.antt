@@ -6,9 +6,9 @@ use Rattle.std.proofs.lemmas.Bool.{eqb-true, eqb-false, eq-eqb, leb-false, lt-le
 use Rattle.std.proofs.lemmas.Int.{of_z-to_z}
 use Rattle.std.proofs.Math.Facts.{sfits_to_z}
 use Rattle.id_rules.specs.Bytes.{are_bytes, are_bytes_of, fits_signed, is_optional_byte}
-use Rattle.wire_rules.specs.Layout.{compact_size, counted, entry_bytes, flag_byte, optional_byte, signed_bytes}
+use Rattle.wire_rules.specs.Layout.{compact_size, counted_bytes, entry_bytes, flag_byte, optional_byte, signed_bytes}
 use Rattle.wire_rules.specs.Limits.{is_entry}
-use Rattle.wire_rules.specs.Reading.{Cursor, Read, ◌>>=◌, wrong, bytes_at, number_at, marked_at, behind_mark, count_at, many_at, counted_at, counted_bytes_at, entry_at, flag_at, flag_of, optional_at, signed_at, ended, start}
+use Rattle.wire_rules.specs.Reading.{Cursor, FieldReading, ◌>>=◌, fault_at, bytes_at, number_at, number_after_mark, number_by_mark, count_at, items_at, counted_items_at, counted_bytes_at, entry_at, flag_at, flag_of, optional_at, signed_at, message_at_end, start}
 use Rattle.wire_rules.specs.declared.faults.PayloadKind.TheVariants as fault
 use Rattle.wire_rules.specs.declared.limits.TheConstants.{LIST_LIMIT}
 use Rattle.wire_rules.specs.declared.message.InvEntry.{InvEntry}
@@ -28,18 +28,18 @@ took_both a b c xs ys first second = record {
 -- ---- counts
 
 -- a test that was passed
-passed_test : {A : Type 0} (b : Bool) (at : ℕ) (a r : A) → (if b then wrong {A = A} at fault.TooMany else Ok a) ≡ Ok r → (b ≡ false) × (a ≡ r)
+passed_test : {A : Type 0} (b : Bool) (at : ℕ) (a r : A) → (if b then fault_at {A = A} at fault.TooMany else Ok a) ≡ Ok r → (b ≡ false) × (a ≡ r)
 passed_test true at a r e = absurd (cc)
 passed_test false at a r e = (refl, from_ok a r (Ok a) refl e)
 
-passed_least : {A : Type 0} (b : Bool) (at : ℕ) (a r : A) → (if b then wrong {A = A} at fault.NotMinimal else Ok a) ≡ Ok r → (b ≡ false) × (a ≡ r)
+passed_least : {A : Type 0} (b : Bool) (at : ℕ) (a r : A) → (if b then fault_at {A = A} at fault.NotMinimal else Ok a) ≡ Ok r → (b ≡ false) × (a ≡ r)
 passed_least true at a r e = absurd (cc)
 passed_least false at a r e = (refl, from_ok a r (Ok a) refl e)
 
 -- a number behind a mark
-marked_took : (at least : ℕ) (w : Width) (c : Cursor) (n : ℕ × Cursor) → marked_at at least w c ≡ Ok n → (number_at w c ≡ Ok n) × (least ≤ n.0)
+marked_took : (at least : ℕ) (w : Width) (c : Cursor) (n : ℕ × Cursor) → number_after_mark at least w c ≡ Ok n → (number_at w c ≡ Ok n) × (least ≤ n.0)
 marked_took at least w c n e =
-    let said = both_said (number_at w c) (λ m. if nat_lt m.0 least then wrong at fault.NotMinimal else Ok m) n e in
+    let said = both_said (number_at w c) (λ m. if nat_lt m.0 least then fault_at at fault.NotMinimal else Ok m) n e in
     let test = passed_least (nat_lt said.0.0 least) at said.0 n said.2 in (
       said.1 ∙ ap (λ m. Ok m) test.1,
       subst (λ (m : ℕ × Cursor). least ≤ m.0) test.1 (let low = leb-false (suc said.0.0) least test.0 in omega arith),
@@ -50,7 +50,7 @@ pub IsSpelled : ℕ → Cursor → ℕ × Cursor → Type 0
 IsSpelled first c n = (xs : List ℕ) × (first ∷ xs ≡ compact_size n.0) × Took c xs n.1
 
 mark_by : (a b d : Bool) (at first : ℕ) (c : Cursor) (n : ℕ × Cursor) → (first == 0xFD) ≡ a → (first == 0xFE) ≡ b → (first == 0xFF) ≡ d → first < 2 ^ 8 → are_bytes c.rest ≡ true → n.0 < 2 ^ 16
-    → (if a then marked_at at 0xFD w16 c else if b then marked_at at (2 ^ 16) w32 c else if d then marked_at at (2 ^ 32) w64 c else Ok (first, c)) ≡ Ok n
+    → (if a then number_after_mark at 0xFD w16 c else if b then number_after_mark at (2 ^ 16) w32 c else if d then number_after_mark at (2 ^ 32) w64 c else Ok (first, c)) ≡ Ok n
     → IsSpelled first c n
 unfolding IsSpelled
 mark_by true b d at first c n ha hb hd low bytes small e =
@@ -75,10 +75,10 @@ mark_by false false false at first c n ha hb hd low bytes small e =
 pub count_at-took : (limit : ℕ) (c : Cursor) (r : ℕ × Cursor) → limit < 2 ^ 16 → are_bytes c.rest ≡ true → count_at limit c ≡ Ok r → Took c (compact_size r.0) r.1 × (r.0 ≤ limit)
 unfolding count_at IsSpelled
 count_at-took limit c r low bytes e =
-    let said = both_said (number_at w8 c) (λ first. behind_mark c.at first.0 first.1 >>= (λ n. if nat_lt limit n.0 then wrong c.at fault.TooMany else Ok n)) r e in
+    let said = both_said (number_at w8 c) (λ first. number_by_mark c.at first.0 first.1 >>= (λ n. if nat_lt limit n.0 then fault_at c.at fault.TooMany else Ok n)) r e in
     let first = said.0 in
     let byte = byte_took c first bytes said.1 in
-    let next = both_said (behind_mark c.at first.0 first.1) (λ n. if nat_lt limit n.0 then wrong c.at fault.TooMany else Ok n) r said.2 in
+    let next = both_said (number_by_mark c.at first.0 first.1) (λ n. if nat_lt limit n.0 then fault_at c.at fault.TooMany else Ok n) r said.2 in
     let test = passed_test (nat_lt limit next.0.0) c.at next.0 r next.2 in
     let within : next.0.0 ≤ limit = let above = leb-false (suc limit) next.0.0 test.0 in omega arith in
     let spelled = mark_by (first.0 == 0xFD) (first.0 == 0xFE) (first.0 == 0xFF) c.at first.0 first.1 next.0 refl refl refl byte.1 byte.0.left (omega (arith, within, low)) next.1 in
@@ -86,7 +86,7 @@ count_at-took limit c r low bytes e =
     (subst (λ xs. Took c xs next.0.1) spelled.1 (took_both c first.1 next.0.1 (first.0 ∷ []) spelled.0 byte.0 spelled.2), within)
 
 -- bytes behind their count
-pub counted_bytes-took : (limit : ℕ) (c : Cursor) (r : List ℕ × Cursor) → limit < 2 ^ 16 → are_bytes c.rest ≡ true → counted_bytes_at limit c ≡ Ok r → Took c (counted r.0) r.1 × (length r.0 ≤ limit)
+pub counted_bytes-took : (limit : ℕ) (c : Cursor) (r : List ℕ × Cursor) → limit < 2 ^ 16 → are_bytes c.rest ≡ true → counted_bytes_at limit c ≡ Ok r → Took c (counted_bytes r.0) r.1 × (length r.0 ≤ limit)
 counted_bytes-took limit c r low bytes e =
     let said = both_said (count_at limit c) (λ n. bytes_at n.0 n.1) r e in
     let count = count_at-took limit c said.0 low bytes said.1 in
@@ -97,30 +97,30 @@ counted_bytes-took limit c r low bytes e =
 
 -- the same by a test
 pub bytes-took : (limit : ℕ) (c : Cursor) (r : List ℕ × Cursor) → limit < 2 ^ 16 → are_bytes c.rest ≡ true → counted_bytes_at limit c ≡ Ok r
-    → Took c (counted r.0) r.1 × ((nat_le (length r.0) limit && are_bytes r.0) ≡ true)
+    → Took c (counted_bytes r.0) r.1 × ((nat_le (length r.0) limit && are_bytes r.0) ≡ true)
 bytes-took limit c r low bytes e =
     let taken = counted_bytes-took limit c r low bytes e in
     (taken.0, both_so (nat_le (length r.0) limit) (are_bytes r.0) (le_holds (length r.0) limit taken.1) (bytes_split (compact_size (length r.0)) r.0 taken.0.front).1)
 
 -- ---- items in a row
 
-module _ {A : Type 0} (item : Cursor → Read A) (spell : A → List ℕ) (test : A → Bool)
+module _ {A : Type 0} (item : Cursor → FieldReading A) (spell : A → List ℕ) (test : A → Bool)
     (taken : (c : Cursor) (r : A × Cursor) → are_bytes c.rest ≡ true → item c ≡ Ok r → Took c (spell r.0) r.1 × (test r.0 ≡ true)) where
   pub record TookItems (n : ℕ) (c : Cursor) (r : List A × Cursor) : Type 0 where
     pub count : length r.0 ≡ n
     pub took : Took c (flat_map spell r.0) r.1
     pub tests : list_all test r.0 ≡ true
 
-  many_at-took : (n : ℕ) (c : Cursor) (r : List A × Cursor) → are_bytes c.rest ≡ true → many_at item n c ≡ Ok r → TookItems n c r
-  unfolding many_at
-  many_at-took zero c r bytes e =
+  items_at-took : (n : ℕ) (c : Cursor) (r : List A × Cursor) → are_bytes c.rest ≡ true → items_at item n c ≡ Ok r → TookItems n c r
+  unfolding items_at
+  items_at-took zero c r bytes e =
       subst (TookItems zero c) (from_ok ([], c) r (Ok ([], c)) refl e) (record { count = refl; took = record { whole = refl; front = refl; left = bytes }; tests = refl })
-  many_at-took (suc n) c r bytes e =
-      let said = both_said (item c) (λ x. many_at item n x.1 >>= (λ xs. Ok (x.0 ∷ xs.0, xs.1))) r e in
+  items_at-took (suc n) c r bytes e =
+      let said = both_said (item c) (λ x. items_at item n x.1 >>= (λ xs. Ok (x.0 ∷ xs.0, xs.1))) r e in
       let x = said.0 in
       let one = taken c x bytes said.1 in
-      let more = both_said (many_at item n x.1) (λ xs. Ok (x.0 ∷ xs.0, xs.1)) r said.2 in
-      let rest = many_at-took n x.1 more.0 one.0.left more.1 in
+      let more = both_said (items_at item n x.1) (λ xs. Ok (x.0 ∷ xs.0, xs.1)) r said.2 in
+      let rest = items_at-took n x.1 more.0 one.0.left more.1 in
       subst (TookItems (suc n) c) (from_ok (x.0 ∷ more.0.0, more.0.1) r (Ok (x.0 ∷ more.0.0, more.0.1)) refl more.2) (record {
         count = ap suc rest.count;
         took = took_both c x.1 more.0.1 (spell x.0) (flat_map spell more.0.0) one.0 rest.took;
@@ -128,12 +128,12 @@ module _ {A : Type 0} (item : Cursor → Read A) (spell : A → List ℕ) (test 
       })
 
   -- items behind their count
-  pub counted_at-took : (c : Cursor) (r : List A × Cursor) → are_bytes c.rest ≡ true → counted_at item c ≡ Ok r
+  pub counted_items_at-took : (c : Cursor) (r : List A × Cursor) → are_bytes c.rest ≡ true → counted_items_at item c ≡ Ok r
       → Took c (compact_size (length r.0) ++ flat_map spell r.0) r.1 × ((nat_le (length r.0) LIST_LIMIT && list_all test r.0) ≡ true)
-  counted_at-took c r bytes e =
-      let said = both_said (count_at LIST_LIMIT c) (λ n. many_at item n.0 n.1) r e in
+  counted_items_at-took c r bytes e =
+      let said = both_said (count_at LIST_LIMIT c) (λ n. items_at item n.0 n.1) r e in
       let count = count_at-took LIST_LIMIT c said.0 (lit< tt) bytes said.1 in
-      let items = many_at-took said.0.0 said.0.1 r count.0.left said.2 in (
+      let items = items_at-took said.0.0 said.0.1 r count.0.left said.2 in (
         took_both c said.0.1 r.1 (compact_size (length r.0)) (flat_map spell r.0) (subst (λ n. Took c (compact_size n) said.0.1) (sym items.count) count.0) items.took,
         both_so (nat_le (length r.0) LIST_LIMIT) (list_all test r.0) (le_holds (length r.0) LIST_LIMIT (subst (λ n. n ≤ LIST_LIMIT) (sym items.count) count.1)) items.tests,
       )
@@ -170,7 +170,7 @@ none_took : (c : Cursor) → are_bytes c.rest ≡ true → Took c [] c
 none_took c bytes = record { whole = refl; front = refl; left = bytes }
 
 flag_by : (z o : Bool) (at b : ℕ) (c : Cursor) (r : Bool × Cursor) → (b == 0) ≡ z → (b == 1) ≡ o → are_bytes c.rest ≡ true
-    → (if z then Ok (false, c) else if o then Ok (true, c) else wrong {A = Bool × Cursor} at fault.BadFlag) ≡ Ok r → Took c [] r.1 × (b ≡ flag_byte r.0)
+    → (if z then Ok (false, c) else if o then Ok (true, c) else fault_at {A = Bool × Cursor} at fault.BadFlag) ≡ Ok r → Took c [] r.1 × (b ≡ flag_byte r.0)
 flag_by true o at b c r hz ho bytes e =
     subst (λ (s : Bool × Cursor). Took c [] s.1 × (b ≡ flag_byte s.0)) (from_ok (false, c) r (Ok (false, c)) refl e) (none_took c bytes, eqb-true b 0 hz)
 flag_by false true at b c r hz ho bytes e =
@@ -236,13 +236,13 @@ no_bytes : (xs : List ℕ) → length xs ≡ 0 → xs ≡ []
 no_bytes [] e = refl
 no_bytes (x ∷ xs) e = absurd (omega arith)
 
-ended_by : (over : Bool) (m n : Message) (c : Cursor) → (length c.rest == 0) ≡ over → (if over then Ok m else wrong {A = Message} c.at fault.Trailing) ≡ Ok n → (m ≡ n) × (c.rest ≡ [])
+ended_by : (over : Bool) (m n : Message) (c : Cursor) → (length c.rest == 0) ≡ over → (if over then Ok m else fault_at {A = Message} c.at fault.Trailing) ≡ Ok n → (m ≡ n) × (c.rest ≡ [])
 ended_by true m n c h e = (from_ok m n (Ok m) refl e, no_bytes c.rest (eqb-true (length c.rest) 0 h))
 ended_by false m n c h e = absurd (cc)
 
 -- a message whose last field ends the payload
-pub ended-took : (payload xs : List ℕ) (m n : Message) (c : Cursor) → Took (start payload) xs c → ended m c ≡ Ok n → (m ≡ n) × (payload ≡ xs)
-unfolding ended
-ended-took payload xs m n c taken e =
+pub message_at_end-took : (payload xs : List ℕ) (m n : Message) (c : Cursor) → Took (start payload) xs c → message_at_end m c ≡ Ok n → (m ≡ n) × (payload ≡ xs)
+unfolding message_at_end
+message_at_end-took payload xs m n c taken e =
     let over = ended_by (length c.rest == 0) m n c refl e in
     (over.0, taken.whole ∙ ap (λ rest. xs ++ rest) over.1 ∙ append-nil xs)

@@ -6,6 +6,6 @@ use Rattle.wire_rules.specs.declared.frame.Frame.{Frame}
 use Rattle.wire_rules.specs.declared.message.Message.{Message}
 
 -- a message that may be sent, and its frame
-pub record IsSaid (f : Frame) (m : Message) : Type 0 where
+pub record IsFrameOf (f : Frame) (m : Message) : Type 0 where
   pub sent : IsMessage m
   pub frame : f ≡ frame_of m

@@ -7,11 +7,11 @@ use Rattle.line_rules.specs.Numbers.{digits_onto as number_onto}
 use Rattle.id_rules.proofs.Samples.{hashing, from_digits}
 use Rattle.wire_rules.specs.Commands.{word_of, is_filled}
 use Rattle.wire_rules.specs.Layout.{compact_size, frame_of}
-use Rattle.wire_rules.specs.Limits.{within_limits, in_range}
-use Rattle.wire_rules.specs.Reading.{bytes_at, count_at, many_at, entry_at, flag_at, optional_at, ended, version_in, salt_in, request_in, sketch_in, diff_in, inventory_in, number_in, named_in}
-use Rattle.wire_rules.specs.Stream.{header_fault, by_sum, by_payload, by_header, by_length, read_message, read_front, read_stream}
+use Rattle.wire_rules.specs.Limits.{is_within_limits, is_in_range}
+use Rattle.wire_rules.specs.Reading.{bytes_at, count_at, items_at, entry_at, flag_at, optional_at, message_at_end, version_in, salt_in, request_in, sketch_in, diff_in, inventory_in, number_in, message_in}
+use Rattle.wire_rules.specs.Stream.{header_fault, front_by_checksum, front_by_payload, front_by_header, front_by_length, stream_by_message, stream_by_front, stream_from}
 use Rattle.wire_rules.specs.Shown.{words_of}
-use Rattle.wire_rules.specs.ShownReading.{fields_of, entry_of, each_of, version_said, said, message_said}
+use Rattle.wire_rules.specs.ShownReading.{fields_of, entry_of, items_of, version_of_fields, message_of_name, message_of_fields}
 use Rattle.wire_rules.specs.declared.message.InvEntry.{InvEntry}
 use Rattle.wire_rules.specs.declared.message.VersionMsg.{VersionMsg}
 
@@ -22,17 +22,17 @@ spelling = tt
 
 -- the same for reading payloads
 unfoldable pub reading : Unit {0}
-unfolding spelling bytes_at count_at many_at entry_at flag_at optional_at ended version_in salt_in request_in sketch_in diff_in inventory_in number_in named_in
+unfolding spelling bytes_at count_at items_at entry_at flag_at optional_at message_at_end version_in salt_in request_in sketch_in diff_in inventory_in number_in message_in
 reading = tt
 
 -- the same for reading a stream
 unfoldable pub streaming : Unit {0}
-unfolding reading header_fault by_sum by_payload by_header by_length read_message read_front read_stream
+unfolding reading header_fault front_by_checksum front_by_payload front_by_header front_by_length stream_by_message stream_by_front stream_from
 streaming = tt
 
 -- the same for lines of text, both ways
 unfoldable pub showing : Unit {0}
-unfolding hashing word_of is_filled digits within_limits in_range words_of fields_of number_onto entry_of each_of version_said said message_said
+unfolding hashing word_of is_filled digits is_within_limits is_in_range words_of fields_of number_onto entry_of items_of version_of_fields message_of_name message_of_fields
 showing = tt
 
 -- the main network's magic

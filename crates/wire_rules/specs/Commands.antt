@@ -53,13 +53,13 @@ is_filled [] = true
 is_filled (b ∷ rest) = if is_printable b then is_filled rest else list_all (λ c. c == 0) (b ∷ rest)
 
 -- whether the first byte is printable
-abbrev pub begins_printable : List ℕ → Bool
-begins_printable [] = false
-begins_printable (b ∷ rest) = is_printable b
+abbrev pub has_printable_start : List ℕ → Bool
+has_printable_start [] = false
+has_printable_start (b ∷ rest) = is_printable b
 
 -- a command field: 12 bytes, printable ones, at least one, and then only NUL
 abbrev pub is_command : List ℕ → Bool
-is_command bytes = (length bytes == 12) && begins_printable bytes && is_filled bytes
+is_command bytes = (length bytes == 12) && has_printable_start bytes && is_filled bytes
 
 -- the command of a message, where it is known
 unfoldable pub name_of : Message → Option Name

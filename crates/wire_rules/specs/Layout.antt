@@ -32,8 +32,8 @@ abbrev pub signed_bytes : Width → ℤ → List ℕ
 signed_bytes w z = to_le_bytes w (cast_unsigned w z)
 
 -- bytes behind their count
-abbrev pub counted : List ℕ → List ℕ
-counted bytes = compact_size (length bytes) ++ bytes
+abbrev pub counted_bytes : List ℕ → List ℕ
+counted_bytes bytes = compact_size (length bytes) ++ bytes
 
 abbrev pub flag_byte : Bool → ℕ
 flag_byte true = 1
@@ -54,42 +54,42 @@ inventory es = compact_size (length es) ++ flat_map entry_bytes es
 abbrev pub version_payload : VersionMsg → List ℕ
 version_payload v =
     signed_bytes w32 v.version ++ to_le_bytes w64 v.services ++ signed_bytes w64 v.time ++ v.receiver ++ v.sender
-    ++ to_le_bytes w64 v.nonce ++ counted v.agent ++ signed_bytes w32 v.height ++ optional_byte v.relay
+    ++ to_le_bytes w64 v.nonce ++ counted_bytes v.agent ++ signed_bytes w32 v.height ++ optional_byte v.relay
 
 -- whether the difference was found, and the short ids asked for behind their count
 abbrev pub diff_payload : Bool → List ℕ → List ℕ
 diff_payload success asks = flag_byte success ∷ (compact_size (length asks) ++ flat_map (to_le_bytes w32) asks)
 
 -- the frame of a command that is known
-abbrev pub named : Name → List ℕ → Frame
-named n payload = record { command = command_of n; payload = payload }
+abbrev pub named_frame : Name → List ℕ → Frame
+named_frame n payload = record { command = command_of n; payload = payload }
 
 -- the one frame of a message. The layouts of the five messages of reconciliation are this project's own, after BIP 330;
 -- `wtxidrelay` is of BIP 339; the others are of the P2P protocol
 unfoldable pub frame_of : Message → Frame
-frame_of (message.Version v) = named name.Version (version_payload v)
-frame_of message.Verack = named name.Verack []
-frame_of message.WtxidRelay = named name.WtxidRelay []
-frame_of (message.SendTxRcncl version salt) = named name.SendTxRcncl (to_le_bytes w32 version ++ to_le_bytes w64 salt)
-frame_of (message.ReqRecon size q) = named name.ReqRecon (to_le_bytes w16 size ++ to_le_bytes w16 q)
-frame_of (message.Sketch bytes) = named name.Sketch (counted bytes)
-frame_of message.ReqSketchExt = named name.ReqSketchExt []
-frame_of (message.ReconcilDiff success asks) = named name.ReconcilDiff (diff_payload success asks)
-frame_of (message.Inv es) = named name.Inv (inventory es)
-frame_of (message.GetData es) = named name.GetData (inventory es)
-frame_of (message.NotFound es) = named name.NotFound (inventory es)
-frame_of (message.Tx tx) = named name.Tx tx
-frame_of (message.Ping n) = named name.Ping (to_le_bytes w64 n)
-frame_of (message.Pong n) = named name.Pong (to_le_bytes w64 n)
+frame_of (message.Version v) = named_frame name.Version (version_payload v)
+frame_of message.Verack = named_frame name.Verack []
+frame_of message.WtxidRelay = named_frame name.WtxidRelay []
+frame_of (message.SendTxRcncl version salt) = named_frame name.SendTxRcncl (to_le_bytes w32 version ++ to_le_bytes w64 salt)
+frame_of (message.ReqRecon size q) = named_frame name.ReqRecon (to_le_bytes w16 size ++ to_le_bytes w16 q)
+frame_of (message.Sketch bytes) = named_frame name.Sketch (counted_bytes bytes)
+frame_of message.ReqSketchExt = named_frame name.ReqSketchExt []
+frame_of (message.ReconcilDiff success asks) = named_frame name.ReconcilDiff (diff_payload success asks)
+frame_of (message.Inv es) = named_frame name.Inv (inventory es)
+frame_of (message.GetData es) = named_frame name.GetData (inventory es)
+frame_of (message.NotFound es) = named_frame name.NotFound (inventory es)
+frame_of (message.Tx tx) = named_frame name.Tx tx
+frame_of (message.Ping n) = named_frame name.Ping (to_le_bytes w64 n)
+frame_of (message.Pong n) = named_frame name.Pong (to_le_bytes w64 n)
 frame_of (message.Other command payload) = record { command = command; payload = payload }
 
 abbrev pub payload_of : Message → List ℕ
 payload_of m = (frame_of m).payload
 
 -- a message in a network's stream
-abbrev pub spelled : List ℕ → Message → List ℕ
-spelled magic m = frame_bytes magic (frame_of m)
+abbrev pub message_bytes : List ℕ → Message → List ℕ
+message_bytes magic m = frame_bytes magic (frame_of m)
 
 -- messages in a network's stream, in order
-abbrev pub on_wire : List ℕ → List Message → List ℕ
-on_wire magic ms = flat_map (spelled magic) ms
+abbrev pub wire_bytes : List ℕ → List Message → List ℕ
+wire_bytes magic ms = flat_map (message_bytes magic) ms

@@ -59,10 +59,10 @@ words_of (message.Pong n) = word_of name.Pong ∷ decimal n ∷ []
 words_of (message.Other command payload) = codes "other" ∷ encode_lower command ∷ bytes_word payload ∷ []
 
 -- the line of a message, without its end
-abbrev pub shown : Message → List ℕ
-shown m = join_with_byte 32 (words_of m)
+abbrev pub message_text : Message → List ℕ
+message_text m = join_with_byte 32 (words_of m)
 
 -- the line is the shown text of this message
 pub record IsShown (line : List ℕ) (m : Message) : Type 0 where
   pub sent : IsMessage m
-  pub text : line ≡ shown m
+  pub text : line ≡ message_text m

@@ -6,7 +6,7 @@ use Rattle.std.specs.List.{AllByRecursion}
 use Rattle.std.specs.declared.option.Option.{Option}
 use Rattle.std.specs.declared.result.Result.{Result}
 use Rattle.wire_rules.specs.Commands.{is_command}
-use Rattle.wire_rules.specs.Layout.{checksum, frame_bytes, on_wire}
+use Rattle.wire_rules.specs.Layout.{checksum, frame_bytes, wire_bytes}
 use Rattle.wire_rules.specs.Limits.{IsFrame, IsMessage}
 use Rattle.wire_rules.specs.Reading.{message_of}
 use Rattle.wire_rules.specs.declared.limits.TheConstants.{HEADER_LEN, PAYLOAD_LIMIT}
@@ -17,8 +17,8 @@ use Rattle.wire_rules.specs.declared.frame.FrameFault.TheVariants as fault
 use Rattle.wire_rules.specs.declared.message.Message.{Message}
 
 -- the offset n bytes further on. It stays at the greatest number of 64 bits
-abbrev pub later : ℕ → ℕ → ℕ
-later place n = min (place + n) (2 ^ 64 - 1)
+abbrev pub later_offset : ℕ → ℕ → ℕ
+later_offset offset n = min (offset + n) (2 ^ 64 - 1)
 
 pub record Header : Type 0 where
   pub magic : List ℕ
@@ -38,116 +38,116 @@ header_of bytes = record {
 -- the first fault of a header that tells this size, by whether its magic is right, its command sound and its size within
 -- the limit
 unfoldable pub header_fault : ℕ → ℕ → Bool → Bool → Bool → Option FrameFault
-header_fault place size false sound within = Some (fault.BadMagic place)
-header_fault place size true false within = Some (fault.BadCommand place)
-header_fault place size true true false = Some (fault.TooLong place size)
-header_fault place size true true true = None
+header_fault offset size false sound within = Some (fault.BadMagic offset)
+header_fault offset size true false within = Some (fault.BadCommand offset)
+header_fault offset size true true false = Some (fault.TooLong offset size)
+header_fault offset size true true true = None
 
 abbrev pub fault_of_header : List ℕ → ℕ → Header → Option FrameFault
-fault_of_header magic place h = header_fault place h.size (bytes_eq magic h.magic) (is_command h.command) (nat_le h.size PAYLOAD_LIMIT)
+fault_of_header magic offset h = header_fault offset h.size (bytes_eq magic h.magic) (is_command h.command) (nat_le h.size PAYLOAD_LIMIT)
 
 -- what unread bytes begin with
 pub data Front : Type 0 where
   -- fewer bytes than a sound header and its payload have
-  Partial : Front
+  PartialFrame : Front
   -- a frame, and how many bytes it has
-  Whole : (frame : Frame) → (size : ℕ) → Front
-  Faulty : (fault : FrameFault) → Front
+  WholeFrame : (frame : Frame) → (size : ℕ) → Front
+  FaultyFrame : (fault : FrameFault) → Front
 
 -- the payload as a whole frame, by whether its checksum is the one that stands
-unfoldable pub by_sum : Bool → ℕ → Header → List ℕ → Front
-by_sum false place h payload = Faulty (fault.BadChecksum place h.sum (checksum payload))
-by_sum true place h payload = Whole (record { command = h.command; payload = payload }) (HEADER_LEN + h.size)
+unfoldable pub front_by_checksum : Bool → ℕ → Header → List ℕ → Front
+front_by_checksum false offset h payload = FaultyFrame (fault.BadChecksum offset h.sum (checksum payload))
+front_by_checksum true offset h payload = WholeFrame (record { command = h.command; payload = payload }) (HEADER_LEN + h.size)
 
-abbrev pub judged_sum : ℕ → Header → List ℕ → Front
-judged_sum place h payload = by_sum (bytes_eq h.sum (checksum payload)) place h payload
+abbrev pub front_of_payload : ℕ → Header → List ℕ → Front
+front_of_payload offset h payload = front_by_checksum (bytes_eq h.sum (checksum payload)) offset h payload
 
 -- by whether the payload is there
-unfoldable pub by_payload : Bool → ℕ → Header → List ℕ → Front
-by_payload false place h behind = Partial
-by_payload true place h behind = judged_sum place h (take h.size behind)
+unfoldable pub front_by_payload : Bool → ℕ → Header → List ℕ → Front
+front_by_payload false offset h behind = PartialFrame
+front_by_payload true offset h behind = front_of_payload offset h (take h.size behind)
 
-unfoldable pub by_header : Option FrameFault → ℕ → Header → List ℕ → Front
-by_header (Some f) place h behind = Faulty f
-by_header None place h behind = by_payload (nat_le h.size (length behind)) place h behind
+unfoldable pub front_by_header : Option FrameFault → ℕ → Header → List ℕ → Front
+front_by_header (Some f) offset h behind = FaultyFrame f
+front_by_header None offset h behind = front_by_payload (nat_le h.size (length behind)) offset h behind
 
 -- by whether the header is there
-unfoldable pub by_length : Bool → List ℕ → ℕ → List ℕ → Front
-by_length false magic place bytes = Partial
-by_length true magic place bytes = by_header (fault_of_header magic place (header_of bytes)) place (header_of bytes) (drop HEADER_LEN bytes)
+unfoldable pub front_by_length : Bool → List ℕ → ℕ → List ℕ → Front
+front_by_length false magic offset bytes = PartialFrame
+front_by_length true magic offset bytes = front_by_header (fault_of_header magic offset (header_of bytes)) offset (header_of bytes) (drop HEADER_LEN bytes)
 
 -- what unread bytes begin with, of which the first has this offset in the whole stream
 abbrev pub front_of : List ℕ → ℕ → List ℕ → Front
-front_of magic place bytes = by_length (nat_le HEADER_LEN (length bytes)) magic place bytes
+front_of magic offset bytes = front_by_length (nat_le HEADER_LEN (length bytes)) magic offset bytes
 
 -- no frame and no fault yet
-pub record Unfinished (magic bytes : List ℕ) : Type 0 where
-  pub front : front_of magic 0 bytes ≡ Partial
+pub record IsUnfinished (magic bytes : List ℕ) : Type 0 where
+  pub front : front_of magic 0 bytes ≡ PartialFrame
 
 -- the bytes are one frame after another, and then an unfinished rest
 pub record Frames (magic bytes : List ℕ) (frames : List Frame) (rest : List ℕ) : Type 0 where
   pub whole : bytes ≡ flat_map (frame_bytes magic) frames ++ rest
   pub each : AllByRecursion IsFrame frames
-  pub partial : Unfinished magic rest
+  pub partial : IsUnfinished magic rest
 
 -- the bytes, of which the first has this offset, are one frame after another, and then a fault
-pub record FrameStop (magic : List ℕ) (place : ℕ) (bytes : List ℕ) (frames : List Frame) (stop : FrameFault) : Type 0 where
+pub record FrameStop (magic : List ℕ) (offset : ℕ) (bytes : List ℕ) (frames : List Frame) (stop : FrameFault) : Type 0 where
   pub rest : List ℕ
   pub whole : bytes ≡ flat_map (frame_bytes magic) frames ++ rest
   pub each : AllByRecursion IsFrame frames
-  pub faulty : front_of magic (later place (length bytes - length rest)) rest ≡ Faulty stop
+  pub faulty : front_of magic (later_offset offset (length bytes - length rest)) rest ≡ FaultyFrame stop
 
 -- the bytes are one message after another, and then an unfinished rest
 pub record Stream (magic bytes : List ℕ) (messages : List Message) (rest : List ℕ) : Type 0 where
-  pub whole : bytes ≡ on_wire magic messages ++ rest
+  pub whole : bytes ≡ wire_bytes magic messages ++ rest
   pub each : AllByRecursion IsMessage messages
-  pub partial : Unfinished magic rest
+  pub partial : IsUnfinished magic rest
 
--- why a stream has no message at a place
+-- why a stream has no message at an offset
 pub data StreamFault : Type 0 where
-  OfFrame : (fault : FrameFault) → StreamFault
-  OfPayload : (fault : PayloadFault) → StreamFault
+  StreamFrameFault : (fault : FrameFault) → StreamFault
+  StreamPayloadFault : (fault : PayloadFault) → StreamFault
 
 -- the unread bytes begin with this fault: of the frame, or of a whole frame's payload
-pub data StopsAt (magic : List ℕ) (place : ℕ) (bytes : List ℕ) : StreamFault → Type 0 where
-  AtFrame : (stop : FrameFault) → front_of magic place bytes ≡ Faulty stop → StopsAt magic place bytes (OfFrame stop)
-  AtPayload : (frame : Frame) → (size : ℕ) → (stop : PayloadFault) → front_of magic place bytes ≡ Whole frame size → message_of frame ≡ Err stop → StopsAt magic place bytes (OfPayload stop)
+pub data IsStopAt (magic : List ℕ) (offset : ℕ) (bytes : List ℕ) : StreamFault → Type 0 where
+  FrameStopAt : (stop : FrameFault) → front_of magic offset bytes ≡ FaultyFrame stop → IsStopAt magic offset bytes (StreamFrameFault stop)
+  PayloadStopAt : (frame : Frame) → (size : ℕ) → (stop : PayloadFault) → front_of magic offset bytes ≡ WholeFrame frame size → message_of frame ≡ Err stop → IsStopAt magic offset bytes (StreamPayloadFault stop)
 
 -- the bytes, of which the first has this offset, are one message after another, and then a fault
-pub record Stop (magic : List ℕ) (place : ℕ) (bytes : List ℕ) (messages : List Message) (stop : StreamFault) : Type 0 where
+pub record Stop (magic : List ℕ) (offset : ℕ) (bytes : List ℕ) (messages : List Message) (stop : StreamFault) : Type 0 where
   pub rest : List ℕ
-  pub whole : bytes ≡ on_wire magic messages ++ rest
+  pub whole : bytes ≡ wire_bytes magic messages ++ rest
   pub each : AllByRecursion IsMessage messages
-  pub faulty : StopsAt magic (later place (length bytes - length rest)) rest stop
+  pub faulty : IsStopAt magic (later_offset offset (length bytes - length rest)) rest stop
 
 -- a stream read from its front: the messages, the bytes behind them with the offset of the first, and the fault that
 -- these begin with, where they do
 pub record StreamRead : Type 0 where
   pub messages : List Message
-  pub place : ℕ
+  pub offset : ℕ
   pub rest : List ℕ
   pub stop : Option StreamFault
 
-abbrev pub stopped : ℕ → List ℕ → Option StreamFault → StreamRead
-stopped place bytes stop = record { messages = []; place = place; rest = bytes; stop = stop }
+abbrev pub stream_end : ℕ → List ℕ → Option StreamFault → StreamRead
+stream_end offset bytes stop = record { messages = []; offset = offset; rest = bytes; stop = stop }
 
-abbrev pub behind : Message → StreamRead → StreamRead
-behind m r = record r { messages = m ∷ r.messages }
+abbrev pub with_message : Message → StreamRead → StreamRead
+with_message m r = record r { messages = m ∷ r.messages }
 
-unfoldable pub read_message : Result Message PayloadFault → ℕ → ℕ → List ℕ → (ℕ → List ℕ → StreamRead) → StreamRead
-read_message (Ok m) size place bytes next = behind m (next (later place size) (drop size bytes))
-read_message (Err f) size place bytes next = stopped place bytes (Some (OfPayload f))
+unfoldable pub stream_by_message : Result Message PayloadFault → ℕ → ℕ → List ℕ → (ℕ → List ℕ → StreamRead) → StreamRead
+stream_by_message (Ok m) size offset bytes next = with_message m (next (later_offset offset size) (drop size bytes))
+stream_by_message (Err f) size offset bytes next = stream_end offset bytes (Some (StreamPayloadFault f))
 
-unfoldable pub read_front : Front → ℕ → List ℕ → (ℕ → List ℕ → StreamRead) → StreamRead
-read_front Partial place bytes next = stopped place bytes None
-read_front (Whole frame size) place bytes next = read_message (message_of frame) size place bytes next
-read_front (Faulty f) place bytes next = stopped place bytes (Some (OfFrame f))
+unfoldable pub stream_by_front : Front → ℕ → List ℕ → (ℕ → List ℕ → StreamRead) → StreamRead
+stream_by_front PartialFrame offset bytes next = stream_end offset bytes None
+stream_by_front (WholeFrame frame size) offset bytes next = stream_by_message (message_of frame) size offset bytes next
+stream_by_front (FaultyFrame f) offset bytes next = stream_end offset bytes (Some (StreamFrameFault f))
 
 -- at most n messages of a stream, from the first unread byte on
-unfoldable pub read_stream : ℕ → List ℕ → ℕ → List ℕ → StreamRead
-read_stream zero magic place bytes = stopped place bytes None
-read_stream (suc n) magic place bytes = read_front (front_of magic place bytes) place bytes (read_stream n magic)
+unfoldable pub stream_from : ℕ → List ℕ → ℕ → List ℕ → StreamRead
+stream_from zero magic offset bytes = stream_end offset bytes None
+stream_from (suc n) magic offset bytes = stream_by_front (front_of magic offset bytes) offset bytes (stream_from n magic)
 
 -- a whole stream. Each frame has at least one byte, so there are no more messages than bytes
 abbrev pub stream_of : List ℕ → List ℕ → StreamRead
-stream_of magic bytes = read_stream (length bytes) magic 0 bytes
+stream_of magic bytes = stream_from (length bytes) magic 0 bytes

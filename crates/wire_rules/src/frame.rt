@@ -10,7 +10,7 @@ pub struct Frame {
     pub payload: Bytes,
 }
 
-/// Why a stream has no frame at a place. `at` is the offset in the whole stream of the frame's first byte.
+/// Why a stream has no frame at an offset. `at` is the offset in the whole stream of the frame's first byte.
 #[derive(Clone, Copy, Debug, PartialEq, Eq)]
 pub enum FrameFault {
     /// The first four bytes aren't the network's.

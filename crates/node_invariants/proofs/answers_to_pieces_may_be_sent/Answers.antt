@@ -1,9 +1,9 @@
 -- Each clause is a part of a lemma.
-use Rattle.node_invariants.proofs.Joined.{takes_all-sound, receives-sound}
+use Rattle.node_invariants.proofs.Joined.{on_messages-sound, on_piece-sound}
 use Rattle.node_invariants.proofs.answers_to_pieces_may_be_sent.Goals as goal
 
 pub returns-clause-by_messages : goal.returns-clause-by_messages
-returns-clause-by_messages c = λ s ms h sound. (takes_all-sound s ms h sound).sendable
+returns-clause-by_messages c = λ s ms h sound. (on_messages-sound s ms h sound).sendable
 
 pub returns-clause-by_piece : goal.returns-clause-by_piece
-returns-clause-by_piece c = λ s piece h bytes. (receives-sound s piece h bytes).sendable
+returns-clause-by_piece c = λ s piece h bytes. (on_piece-sound s piece h bytes).sendable

@@ -1,15 +1,15 @@
 -- Each clause is a lemma.
-use Rattle.node_invariants.proofs.Conversing.{opening-conversing, takes-conversing, adds-conversing, begins-conversing}
+use Rattle.node_invariants.proofs.Conversing.{opening-conversing, on_message-conversing, on_addition-conversing, on_start-conversing}
 use Rattle.node_invariants.proofs.conversations_are_kept.Goals as goal
 
 pub returns-clause-opening : goal.returns-clause-opening
 returns-clause-opening c = opening-conversing
 
 pub returns-clause-by_message : goal.returns-clause-by_message
-returns-clause-by_message c = takes-conversing
+returns-clause-by_message c = on_message-conversing
 
 pub returns-clause-by_addition : goal.returns-clause-by_addition
-returns-clause-by_addition c = adds-conversing
+returns-clause-by_addition c = on_addition-conversing
 
 pub returns-clause-by_round : goal.returns-clause-by_round
-returns-clause-by_round c = begins-conversing
+returns-clause-by_round c = on_start-conversing

@@ -1,18 +1,18 @@
 -- Each clause is a lemma, or a part of one.
-use Rattle.node_invariants.proofs.Joined.{takes-node, takes_all-sound, receives-sound, adds-node, begins-node}
+use Rattle.node_invariants.proofs.Joined.{on_message-node, on_messages-sound, on_piece-sound, on_addition-node, on_start-node}
 use Rattle.node_invariants.proofs.nodes_stay_nodes.Goals as goal
 
 pub returns-clause-by_message : goal.returns-clause-by_message
-returns-clause-by_message c = λ s m h sound. takes-node s h m sound
+returns-clause-by_message c = λ s m h sound. on_message-node s h m sound
 
 pub returns-clause-by_messages : goal.returns-clause-by_messages
-returns-clause-by_messages c = λ s ms h sound. (takes_all-sound s ms h sound).node
+returns-clause-by_messages c = λ s ms h sound. (on_messages-sound s ms h sound).node
 
 pub returns-clause-by_piece : goal.returns-clause-by_piece
-returns-clause-by_piece c = λ s piece h bytes. (receives-sound s piece h bytes).node
+returns-clause-by_piece c = λ s piece h bytes. (on_piece-sound s piece h bytes).node
 
 pub returns-clause-by_addition : goal.returns-clause-by_addition
-returns-clause-by_addition c = λ s tx h sound. adds-node s h tx sound
+returns-clause-by_addition c = λ s tx h sound. on_addition-node s h tx sound
 
 pub returns-clause-by_round : goal.returns-clause-by_round
-returns-clause-by_round c = begins-node
+returns-clause-by_round c = on_start-node

@@ -1,15 +1,15 @@
 -- Each clause is a lemma.
-use Rattle.node_invariants.proofs.Stores.{opening-store, takes-store, adds-store, begins-store}
+use Rattle.node_invariants.proofs.Stores.{opening-store, on_message-store, on_addition-store, on_start-store}
 use Rattle.node_invariants.proofs.stores_are_kept.Goals as goal
 
 pub returns-clause-opening : goal.returns-clause-opening
 returns-clause-opening c = opening-store
 
 pub returns-clause-by_message : goal.returns-clause-by_message
-returns-clause-by_message c = takes-store
+returns-clause-by_message c = on_message-store
 
 pub returns-clause-by_addition : goal.returns-clause-by_addition
-returns-clause-by_addition c = adds-store
+returns-clause-by_addition c = on_addition-store
 
 pub returns-clause-by_round : goal.returns-clause-by_round
-returns-clause-by_round c = begins-store
+returns-clause-by_round c = on_start-store

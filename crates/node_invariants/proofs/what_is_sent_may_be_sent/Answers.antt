@@ -1,15 +1,15 @@
 -- Each clause is a lemma.
-use Rattle.node_invariants.proofs.Sending.{opening-sendable, takes-sendable, adds-sendable, begins-sendable}
+use Rattle.node_invariants.proofs.Sending.{opening-sendable, on_message-sendable, on_addition-sendable, on_start-sendable}
 use Rattle.node_invariants.proofs.what_is_sent_may_be_sent.Goals as goal
 
 pub returns-clause-opening : goal.returns-clause-opening
 returns-clause-opening c = opening-sendable
 
 pub returns-clause-by_message : goal.returns-clause-by_message
-returns-clause-by_message c = λ s m h sound. takes-sendable s h m sound
+returns-clause-by_message c = λ s m h sound. on_message-sendable s h m sound
 
 pub returns-clause-by_addition : goal.returns-clause-by_addition
-returns-clause-by_addition c = λ s tx h sound. adds-sendable s h tx sound
+returns-clause-by_addition c = λ s tx h sound. on_addition-sendable s h tx sound
 
 pub returns-clause-by_round : goal.returns-clause-by_round
-returns-clause-by_round c = begins-sendable
+returns-clause-by_round c = on_start-sendable

@@ -1,7 +1,7 @@
 -- Each clause is a lemma.
 use Rattle.stream_laws.proofs.Fronts.{front_of-frame, front_of-cut}
 use Rattle.stream_laws.proofs.Found.{front-found, whole-size}
-use Rattle.stream_laws.proofs.Offsets.{later-later}
+use Rattle.stream_laws.proofs.Offsets.{later_offset-later_offset}
 use Rattle.stream_laws.proofs.Stays.{front-stays, partial-anywhere}
 use Rattle.stream_laws.proofs.fronts_are_frames.Goals as goal
 
@@ -24,4 +24,4 @@ pub returns-clause-partial : goal.returns-clause-partial
 returns-clause-partial c = partial-anywhere
 
 pub returns-clause-offsets : goal.returns-clause-offsets
-returns-clause-offsets c = later-later
+returns-clause-offsets c = later_offset-later_offset

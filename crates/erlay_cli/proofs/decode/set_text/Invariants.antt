@@ -1,6 +1,6 @@
 use Rattle.std.proofs.Common.{◌≡◌, map, take}
 use Rattle.field_core.specs.Gf32.{bits_of}
-use Rattle.text_rules.specs.Elements.{set_text}
+use Rattle.sketch_text_rules.specs.Elements.{set_text}
 use Rattle.erlay_cli.proofs.decode.set_text.Given as goal
 
 abbrev pub invariant-loop-element : goal.invariant-loop-element

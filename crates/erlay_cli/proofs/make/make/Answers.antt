@@ -7,8 +7,8 @@ use Rattle.sketch_rules.specs.Sketches.{sketch_of}
 use Rattle.field_core.specs.declared.gf32.Gf32.{Gf32}
 use Rattle.field_core.specs.Gf32.{bits_of, numbered, ops}
 use Rattle.sketch_laws.proofs.SketchNumbers.{sketch_by-numbers}
-use Rattle.text_rules.specs.Elements.{set_in}
-use Rattle.erlay_cli.specs.Answers.{Answer, Reports, made, sketched}
+use Rattle.sketch_text_rules.specs.Elements.{set_in}
+use Rattle.erlay_cli.specs.Answers.{Answer, IsReportOf, make_answer, sketch_answer}
 use Rattle.erlay_cli.proofs.Sets.{apart, nonzero}
 use Rattle.erlay_cli.proofs.make.make.Goals as goal
 
@@ -27,5 +27,5 @@ returns c =
     let numbers = sketch_by-numbers ops bits_of 32 numbered c.in-Ok.elements.items c.args.capacity in
     let items : c.in-Ok-of.sketch ≡ sketch_by ops c.in-Ok.elements.items c.args.capacity = c.in-Ok-of.ensures.ok ∙ ap (λ es. sketch_by ops es c.args.capacity) c.as_slice.ensures.value in
     let sums : map bits_of c.in-Ok-of.sketch ≡ sketch_of (map bits_of c.in-Ok.elements.items) c.args.capacity = ap (map bits_of) items ∙ numbers in
-    let answer : sketched (map bits_of c.in-Ok-of.sketch) ≡ made c.args.capacity (set_in c.args.input.now) = ap sketched sums ∙ ap (made c.args.capacity) (sym c.in-Ok.ensures.gives) in
-    subst (λ (a : Answer). IfOk c.sketch_report.result (λ report. Reports report a)) answer c.sketch_report.ensures
+    let answer : sketch_answer (map bits_of c.in-Ok-of.sketch) ≡ make_answer c.args.capacity (set_in c.args.input.now) = ap sketch_answer sums ∙ ap (make_answer c.args.capacity) (sym c.in-Ok.ensures.gives) in
+    subst (λ (a : Answer). IfOk c.sketch_report.result (λ report. IsReportOf report a)) answer c.sketch_report.ensures

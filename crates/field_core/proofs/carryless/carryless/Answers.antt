@@ -1,10 +1,10 @@
 use Rattle.std.proofs.Common.{rules, ◌-◌, ◌*◌, ◌/◌, ◌%◌, ◌^◌, ◌<◌, bit_and, bit_xor, sym, ◌∙◌, ap, arith}
-use Rattle.field_laws.proofs.Carryless.{carryless_below-zero}
+use Rattle.field_laws.proofs.Carryless.{carryless_product-zero}
 use Rattle.field_core.proofs.Windows.{window-below, window-next}
 use Rattle.field_core.proofs.carryless.carryless.Goals as goal
 
 pub loop-i-init : goal.loop-i-init
-loop-i-init c = sym (carryless_below-zero c.args.a (c.args.b / 2 ^ 32))
+loop-i-init c = sym (carryless_product-zero c.args.a (c.args.b / 2 ^ 32))
 
 pub loop-i-preserved : goal.loop-i-preserved
 loop-i-preserved c = let fits : c.args.a < 2 ^ 32 = search rules in

@@ -1,5 +1,5 @@
-use Rattle.poly_rules.specs.Recurrences.{Extends}
+use Rattle.poly_rules.specs.Recurrences.{IsExtension}
 use Rattle.poly_ops.proofs.recurrence.extend_recurrence.Given as goal
 
 abbrev pub invariant-loop-i : goal.invariant-loop-i
-invariant-loop-i g l = Extends g.F.Field.ops l.f l.sums l.i l.values.items
+invariant-loop-i g l = IsExtension g.F.Field.ops l.f l.sums l.i l.values.items

@@ -11,22 +11,22 @@ use Rattle.trace_roots.proofs.members.+find_members.Goals as goal
 pub returns-then-coeffs-eq2-clause-members : goal.returns-then-coeffs-eq2-clause-members
 returns-then-coeffs-eq2-clause-members g n c es part alike =
     let lone : es ≡ c.index.result.now ∷ [] =
-    lone_member g.F.Field.ops g.met.F.Field.ring g.F.Field.bits_of g.F.Field.BITS c.args.place es c.args.part.locator c.args.part.sums.items c.args.part.traces.items c.index.result.now part
+    lone_member g.F.Field.ops g.met.F.Field.ring g.F.Field.bits_of g.F.Field.BITS c.args.exponent es c.args.part.locator c.args.part.sums.items c.args.part.traces.items c.index.result.now part
     (sym (ap length c.coeffs.ensures.value) ∙ c.if-coeffs-eq2.true) c.index.ensures in
     (es, IsPermutation-refl es, c.in_ok-push.ensures.items ∙ ap (λ z. c.args.found.now.items ++ z) (sym lone))
 
-pub returns-then-place-BITS : goal.returns-then-place-BITS
-returns-then-place-BITS g n c = record {
+pub returns-then-exponent-BITS : goal.returns-then-exponent-BITS
+returns-then-exponent-BITS g n c = record {
   all = λ es part alike. absurd (one_left es part alike);
   members = λ es part alike. absurd (one_left es part alike);
 }
   where
-    one_left : (es : List _) → IsPartOf g.F.Field.ops g.met.F.Field.ring g.F.Field.bits_of g.F.Field.BITS g.met.F.Field.numbered c.args.place es c.args.part → IsAlike g.F.Field.ops g.F.Field.bits_of g.F.Field.BITS c.args.place es → ⊥
+    one_left : (es : List _) → IsPartOf g.F.Field.ops g.met.F.Field.ring g.F.Field.bits_of g.F.Field.BITS g.met.F.Field.numbered c.args.exponent es c.args.part → IsAlike g.F.Field.ops g.F.Field.bits_of g.F.Field.BITS c.args.exponent es → ⊥
     one_left es part alike =
         c.if-coeffs-eq2.false
         (ap length c.coeffs.ensures.value
-        ∙ end_of_basis g.F.Field.ops g.met.F.Field.ring g.F.Field.bits_of g.F.Field.BITS g.met.F.Field.separates c.args.place es c.args.part.locator c.args.part.sums.items c.args.part.traces.items c.requires.fits part
-        (omega (arith, c.requires.place, c.if-place-BITS.true, c.BITS.ensures)) alike)
+        ∙ end_of_basis g.F.Field.ops g.met.F.Field.ring g.F.Field.bits_of g.F.Field.BITS g.met.F.Field.separates c.args.exponent es c.args.part.locator c.args.part.sums.items c.args.part.traces.items c.requires.fits part
+        (omega (arith, c.requires.exponent, c.if-exponent-BITS.true, c.BITS.ensures)) alike)
 
 pub returns-then-coeffs-lt2 : goal.returns-then-coeffs-lt2
 returns-then-coeffs-lt2 g n c = record {
@@ -34,9 +34,9 @@ returns-then-coeffs-lt2 g n c = record {
   members = λ es part alike. let next = unparted es part alike in c.find_members.ensures.members es next.0 next.1;
 }
   where
-    unparted : (es : List _) → IsPartOf g.F.Field.ops g.met.F.Field.ring g.F.Field.bits_of g.F.Field.BITS g.met.F.Field.numbered c.args.place es c.args.part → IsAlike g.F.Field.ops g.F.Field.bits_of g.F.Field.BITS c.args.place es → IsPartOf g.F.Field.ops g.met.F.Field.ring g.F.Field.bits_of g.F.Field.BITS g.met.F.Field.numbered (c.args.place + 1) es c.in-Some.part × IsAlike g.F.Field.ops g.F.Field.bits_of g.F.Field.BITS (c.args.place + 1) es
+    unparted : (es : List _) → IsPartOf g.F.Field.ops g.met.F.Field.ring g.F.Field.bits_of g.F.Field.BITS g.met.F.Field.numbered c.args.exponent es c.args.part → IsAlike g.F.Field.ops g.F.Field.bits_of g.F.Field.BITS c.args.exponent es → IsPartOf g.F.Field.ops g.met.F.Field.ring g.F.Field.bits_of g.F.Field.BITS g.met.F.Field.numbered (c.args.exponent + 1) es c.in-Some.part × IsAlike g.F.Field.ops g.F.Field.bits_of g.F.Field.BITS (c.args.exponent + 1) es
     unparted es part alike =
-        next_unparted g.F.Field.ops g.met.F.Field.ring g.F.Field.bits_of g.F.Field.BITS g.met.F.Field.numbered c.args.place (omega (arith, c.if-place-BITS.false, c.BITS.ensures)) es c.in-Some.trace c.in-Some.part c.in-Some.is
+        next_unparted g.F.Field.ops g.met.F.Field.ring g.F.Field.bits_of g.F.Field.BITS g.met.F.Field.numbered c.args.exponent (omega (arith, c.if-exponent-BITS.false, c.BITS.ensures)) es c.in-Some.trace c.in-Some.part c.in-Some.is
         (c.in_ok-trace.ensures.trace es part) (c.in_ok-trace.ensures.part es part)
         (omega (arith, c.if-coeffs-lt2.true, ap length c.coeffs-2.ensures.value)) alike
 
@@ -46,12 +46,12 @@ returns-in_default-2 g n c = record {
   members = λ es part alike. never (none es part);
 }
   where
-    none : (es : List _) → IsPartOf g.F.Field.ops g.met.F.Field.ring g.F.Field.bits_of g.F.Field.BITS g.met.F.Field.numbered c.args.place es c.args.part → false ≡ true
+    none : (es : List _) → IsPartOf g.F.Field.ops g.met.F.Field.ring g.F.Field.bits_of g.F.Field.BITS g.met.F.Field.numbered c.args.exponent es c.args.part → false ≡ true
     none es part =
         subst IsSome c.in_default-2.is
-        (next_by_basis g.F.Field.ops g.met.F.Field.ring g.F.Field.bits_of g.F.Field.BITS g.met.F.Field.numbered c.args.place (omega (arith, c.if-place-BITS.false, c.BITS.ensures)) es c.in-Some.trace c.in-Some.part c.in-Some.is
+        (next_by_basis g.F.Field.ops g.met.F.Field.ring g.F.Field.bits_of g.F.Field.BITS g.met.F.Field.numbered c.args.exponent (omega (arith, c.if-exponent-BITS.false, c.BITS.ensures)) es c.in-Some.trace c.in-Some.part c.in-Some.is
         (c.in_ok-trace.ensures.trace es part) (c.in_ok-trace.ensures.part es part)
-        (λ b bits rest traced. c.in_ok-first.ensures.found c.args.place b es bits rest traced))
+        (λ b bits rest traced. c.in_ok-first.ensures.found c.args.exponent b es bits rest traced))
 
 pub returns-then-not-branch : goal.returns-then-not-branch
 returns-then-not-branch g n c = record {
@@ -59,13 +59,13 @@ returns-then-not-branch g n c = record {
   members = λ es part alike. never (none es part alike);
 }
   where
-    halved : (es : List _) → IsPartOf g.F.Field.ops g.met.F.Field.ring g.F.Field.bits_of g.F.Field.BITS g.met.F.Field.numbered c.args.place es c.args.part → IsAlike g.F.Field.ops g.F.Field.bits_of g.F.Field.BITS c.args.place es → IsSplitOf g.F.Field.ops g.met.F.Field.ring g.F.Field.bits_of g.F.Field.BITS g.met.F.Field.numbered (c.args.place + 1) es c.in-Some-2.first c.in-Some-2.second
+    halved : (es : List _) → IsPartOf g.F.Field.ops g.met.F.Field.ring g.F.Field.bits_of g.F.Field.BITS g.met.F.Field.numbered c.args.exponent es c.args.part → IsAlike g.F.Field.ops g.F.Field.bits_of g.F.Field.BITS c.args.exponent es → IsSplitOf g.F.Field.ops g.met.F.Field.ring g.F.Field.bits_of g.F.Field.BITS g.met.F.Field.numbered (c.args.exponent + 1) es c.in-Some-2.first c.in-Some-2.second
     halved es part alike =
-        next_split g.F.Field.ops g.met.F.Field.ring g.F.Field.bits_of g.F.Field.BITS g.met.F.Field.numbered c.args.place (omega (arith, c.if-place-BITS.false, c.BITS.ensures)) es c.in-Some.trace c.in-Some.part c.in-Some.is
+        next_split g.F.Field.ops g.met.F.Field.ring g.F.Field.bits_of g.F.Field.BITS g.met.F.Field.numbered c.args.exponent (omega (arith, c.if-exponent-BITS.false, c.BITS.ensures)) es c.in-Some.trace c.in-Some.part c.in-Some.is
         (c.in_ok-trace.ensures.trace es part) (c.in_ok-trace.ensures.part es part)
-        c.in-Some-2.first c.in-Some-2.second c.in-Some-2.is (λ b bits rest traced. c.in_ok-first.ensures.parts c.args.place b es bits rest traced alike)
+        c.in-Some-2.first c.in-Some-2.second c.in-Some-2.is (λ b bits rest traced. c.in_ok-first.ensures.parts c.args.exponent b es bits rest traced alike)
 
-    none : (es : List _) → IsPartOf g.F.Field.ops g.met.F.Field.ring g.F.Field.bits_of g.F.Field.BITS g.met.F.Field.numbered c.args.place es c.args.part → IsAlike g.F.Field.ops g.F.Field.bits_of g.F.Field.BITS c.args.place es → false ≡ true
+    none : (es : List _) → IsPartOf g.F.Field.ops g.met.F.Field.ring g.F.Field.bits_of g.F.Field.BITS g.met.F.Field.numbered c.args.exponent es c.args.part → IsAlike g.F.Field.ops g.F.Field.bits_of g.F.Field.BITS c.args.exponent es → false ≡ true
     none es part alike = let parts = halved es part alike in sym c.if-not-branch.true ∙ c.in_ok-find_members.ensures.all parts.left parts.left_part parts.left_alike
 
 pub returns : goal.returns
@@ -83,8 +83,8 @@ returns g n c = record {
       (c.find_members-3.ensures.members parts.right parts.right_part parts.right_alike);
 }
   where
-    halved : (es : List _) → IsPartOf g.F.Field.ops g.met.F.Field.ring g.F.Field.bits_of g.F.Field.BITS g.met.F.Field.numbered c.args.place es c.args.part → IsAlike g.F.Field.ops g.F.Field.bits_of g.F.Field.BITS c.args.place es → IsSplitOf g.F.Field.ops g.met.F.Field.ring g.F.Field.bits_of g.F.Field.BITS g.met.F.Field.numbered (c.args.place + 1) es c.in-Some-2.first c.in-Some-2.second
+    halved : (es : List _) → IsPartOf g.F.Field.ops g.met.F.Field.ring g.F.Field.bits_of g.F.Field.BITS g.met.F.Field.numbered c.args.exponent es c.args.part → IsAlike g.F.Field.ops g.F.Field.bits_of g.F.Field.BITS c.args.exponent es → IsSplitOf g.F.Field.ops g.met.F.Field.ring g.F.Field.bits_of g.F.Field.BITS g.met.F.Field.numbered (c.args.exponent + 1) es c.in-Some-2.first c.in-Some-2.second
     halved es part alike =
-        next_split g.F.Field.ops g.met.F.Field.ring g.F.Field.bits_of g.F.Field.BITS g.met.F.Field.numbered c.args.place (omega (arith, c.if-place-BITS.false, c.BITS.ensures)) es c.in-Some.trace c.in-Some.part c.in-Some.is
+        next_split g.F.Field.ops g.met.F.Field.ring g.F.Field.bits_of g.F.Field.BITS g.met.F.Field.numbered c.args.exponent (omega (arith, c.if-exponent-BITS.false, c.BITS.ensures)) es c.in-Some.trace c.in-Some.part c.in-Some.is
         (c.in_ok-trace.ensures.trace es part) (c.in_ok-trace.ensures.part es part)
-        c.in-Some-2.first c.in-Some-2.second c.in-Some-2.is (λ b bits rest traced. c.in_ok-first.ensures.parts c.args.place b es bits rest traced alike)
+        c.in-Some-2.first c.in-Some-2.second c.in-Some-2.is (λ b bits rest traced. c.in_ok-first.ensures.parts c.args.exponent b es bits rest traced alike)

@@ -11,7 +11,7 @@ loop-j-preserved g c =
     record {
       size = omega (arith, ap length items, length-append c.loop-j.traces.items (c.in_ok-trace.trace ∷ []), c.loop-j.invariant.size);
       lower = subst (All (λ t. length t ≤ c.args.n)) (sym items) (All-push (λ t. length t ≤ c.args.n) c.loop-j.traces.items c.in_ok-trace.trace c.loop-j.invariant.lower c.in_ok-trace.ensures.no_longer);
-      each = subst (ArePolynomials g.F.Field.ops g.F.Field.bits_of g.F.Field.BITS c.args.place c.args.table.now) (sym items)
-          (polynomials-pushed g.F.Field.ops g.F.Field.bits_of g.F.Field.BITS c.args.place g.met.F.Field.numbered.same c.args.table.now c.loop-j.traces.items c.in_ok-trace.trace c.basis.result
+      each = subst (ArePolynomials g.F.Field.ops g.F.Field.bits_of g.F.Field.BITS c.args.exponent c.args.table.now) (sym items)
+          (polynomials-pushed g.F.Field.ops g.F.Field.bits_of g.F.Field.BITS c.args.exponent g.met.F.Field.numbered.same c.args.table.now c.loop-j.traces.items c.in_ok-trace.trace c.basis.result
           c.loop-j.invariant.each (c.basis.ensures ∙ ap (λ n. 2 ^ n) (sym c.loop-j.invariant.size)) c.in_ok-trace.ensures.same);
     }

@@ -1,6 +1,6 @@
 use Rattle.std.proofs.Common.{◌≡◌, ◌++◌, length, take, drop, sym, ap, subst, ◌∙◌, arith}
 use Rattle.std.proofs.lemmas.List.{take_at, length-replicate}
-use Rattle.splitting_laws.specs.Parts.{IsWindows}
+use Rattle.splitting_laws.specs.Parts.{IsCorrelation}
 use Rattle.trace_roots.proofs.windows.windows.Goals as goal
 
 pub returns : goal.returns
@@ -8,5 +8,5 @@ returns g c =
     let size : length c.in_ok-products.products.items ≡ c.args.n = ap length c.in_ok-products.ensures ∙ length-replicate c.args.n g.F.Field.ops.zero in
     let whole : take c.in_ok-products.products.len (c.add_windows.new.products ++ drop (length c.add_windows.new.products) c.in_ok-products.products.items) ≡ c.add_windows.new.products =
     take_at c.add_windows.new.products (drop (length c.add_windows.new.products) c.in_ok-products.products.items) c.in_ok-products.products.len (omega arith) in
-    subst (IsWindows g.F.Field.ops c.args.coefficients.now c.args.sums.now c.args.n) (sym whole)
-    (subst (λ n. IsWindows g.F.Field.ops c.args.coefficients.now c.args.sums.now n c.add_windows.new.products) (ap length c.as_mut_slice.ensures.value ∙ size) c.add_windows.ensures)
+    subst (IsCorrelation g.F.Field.ops c.args.coefficients.now c.args.sums.now c.args.n) (sym whole)
+    (subst (λ n. IsCorrelation g.F.Field.ops c.args.coefficients.now c.args.sums.now n c.add_windows.new.products) (ap length c.as_mut_slice.ensures.value ∙ size) c.add_windows.ensures)

@@ -1,6 +1,6 @@
 use Rattle.std.proofs.Common.{◌≡◌, ◌++◌, ◌∷◌, length, take, drop, reverse, arith, ap, subst, sym, ◌∙◌}
 use Rattle.std.proofs.lemmas.List.{take_at}
-use Rattle.poly_rules.specs.Polynomials.{Same, IsMonic, degree}
+use Rattle.poly_rules.specs.Polynomials.{IsSamePolynomial, IsMonic, degree}
 use Rattle.bm_solver.specs.Locators.{coefficients_of}
 use Rattle.bm_solver.proofs.Locators.{monic_is, monic_only}
 use Rattle.bm_solver.proofs.locator.Locator.from_monic.Goals as goal
@@ -8,7 +8,7 @@ use Rattle.bm_solver.proofs.locator.Locator.from_monic.Goals as goal
 pub invariant_of-result : goal.invariant_of-result
 invariant_of-result g c = record {
   is_monic = subst (λ f. IsMonic g.F.Field.ops (degree f) f) (sym kept) c.requires;
-  is_poly = subst (Same g.F.Field.ops c.from_coeffs.result) (turned ∙ ap reverse (sym kept)) c.from_coeffs.ensures.same;
+  is_poly = subst (IsSamePolynomial g.F.Field.ops c.from_coeffs.result) (turned ∙ ap reverse (sym kept)) c.from_coeffs.ensures.same;
 }
   where
     kept : c.from_coeffs-2.result ≡ c.args.monic.items

@@ -1,7 +1,7 @@
 use Rattle.std.proofs.Common.{◌≡◌, length, drop, ◌∙◌, ap, arith}
 use Rattle.field_rules.specs.Ops.{with_odd_powers}
 use Rattle.sketch_core.proofs.Both.{written_back}
-use Rattle.sketch_core.proofs.Sums.{sums_from-more}
+use Rattle.sketch_core.proofs.Sums.{odd_power_sums-more}
 use Rattle.sketch_core.proofs.sketch.Sketch.toggle.Goals as goal
 
 pub returns-clause-sums : goal.returns-clause-sums
@@ -13,4 +13,4 @@ returns-clause-sums g c =
 
 pub returns-clause-set : goal.returns-clause-set
 returns-clause-set g c es is =
-    returns-clause-sums g c ∙ ap (with_odd_powers g.F.Field.ops c.args.e 0) is ∙ sums_from-more g.F.Field.ops g.met.F.Field.ring es c.args.e 0 (length c.args.self.now)
+    returns-clause-sums g c ∙ ap (with_odd_powers g.F.Field.ops c.args.e 0) is ∙ odd_power_sums-more g.F.Field.ops g.met.F.Field.ring es c.args.e 0 (length c.args.self.now)

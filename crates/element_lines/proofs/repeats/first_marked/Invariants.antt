@@ -1,6 +1,0 @@
-use Rattle.element_lines.proofs.Marks.{Marks}
-use Rattle.element_lines.proofs.repeats.first_marked.Given as goal
-
--- the numbers before i have marked their places
-abbrev pub invariant-loop-i : goal.invariant-loop-i
-invariant-loop-i l = Marks l.numbers l.repeats l.i l.marked.items

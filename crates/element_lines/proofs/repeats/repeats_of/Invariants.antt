@@ -1,6 +1,0 @@
-use Rattle.element_lines.proofs.Found.{Found}
-use Rattle.element_lines.proofs.repeats.repeats_of.Given as goal
-
--- what was found before i
-abbrev pub invariant-loop-i : goal.invariant-loop-i
-invariant-loop-i l = Found l.sorted l.i l.repeats.items

@@ -1,0 +1,44 @@
+-- What holds of each two numbers of a list, in whatever order.
+use Rattle.std.proofs.Common.{◌≡◌, ◌≢◌, ℕ, ◌<◌, ◌≤◌, List, length, get_or, refl, sym, ap, ◌∙◌, arith, subst, ◌⊎◌, inl, inr, ⊎_elim}
+use Rattle.std.specs.List.{AllPairs, Contains, swap}
+use Rattle.std.specs.List.Sorted.{IsPermutation}
+use Rattle.std.proofs.lemmas.List.Edits.{Swapped, length-swap, swapped_from_swap}
+use Rattle.std.proofs.lemmas.Bool.{cases_eq, cases_lt}
+use Rattle.std.proofs.lemmas.List.Sorted.{IsPermutation-keeps}
+use Rattle.sketch_text.specs.Repeats.{HasRepeats}
+
+-- where the item at index m stood before the items at indices a and b were swapped
+abbrev Origin : ℕ → ℕ → ℕ → ℕ → Type 0
+Origin a b m k = ((m ≡ a) × (k ≡ b)) ⊎ (((m ≡ b) × (k ≡ a)) ⊎ ((m ≢ a) × (m ≢ b) × (k ≡ m)))
+
+origin_of : (f g : ℕ → ℕ) (a b m : ℕ) → Swapped f g a b → (m ≡ a) ⊎ (m ≢ a) → (m ≡ b) ⊎ (m ≢ b) → (k : ℕ) × Origin a b m k × (g m ≡ f k)
+origin_of f g a b m swapped (inl at_a) either = (b, inl (at_a, refl), ap g at_a ∙ swapped.0)
+origin_of f g a b m swapped (inr not_a) (inl at_b) = (a, inr (inl (at_b, refl)), ap g at_b ∙ swapped.1)
+origin_of f g a b m swapped (inr not_a) (inr not_b) = (m, inr (inr (not_a, not_b, refl)), swapped.2 m not_a not_b)
+
+module _ (R : ℕ → ℕ → Type 0) (turned : (a b : ℕ) → R a b → R b a) where
+  -- two numbers at different indices
+  both : (xs : List ℕ) (k l d : ℕ) → AllPairs R xs → k ≢ l → k < length xs → l < length xs → R (get_or xs k d) (get_or xs l d)
+  both xs k l d all apart k_in l_in = ⊎_elim
+      (λ (before : k < l). all k l d before l_in)
+      (λ (behind : l ≤ k). turned (get_or xs l d) (get_or xs k d) (all l k d (omega arith) k_in))
+      (cases_lt k l)
+
+  -- after two numbers were swapped
+  AllPairs-swap : (xs : List ℕ) (a b : ℕ) → a < length xs → b < length xs → AllPairs R xs → AllPairs R (swap xs a b)
+  AllPairs-swap xs a b a_in b_in all i j d before j_in =
+      let len = length-swap xs a b in
+      let swapped = swapped_from_swap xs (swap xs a b) a b d a_in b_in refl in
+      let from_i = origin_of (λ k. get_or xs k d) (λ k. get_or (swap xs a b) k d) a b i swapped (cases_eq i a) (cases_eq i b) in
+      let from_j = origin_of (λ k. get_or xs k d) (λ k. get_or (swap xs a b) k d) a b j swapped (cases_eq j a) (cases_eq j b) in
+      let apart : from_i.0 ≢ from_j.0 = λ same. (let one : from_i.0 ≡ from_j.0 = same in omega (arith, from_i.1, from_j.1)) in
+      let here = both xs from_i.0 from_j.0 d all apart (omega (arith, from_i.1, len)) (omega (arith, from_j.1, len)) in
+      subst (λ (x : ℕ). R x (get_or (swap xs a b) j d)) (sym from_i.2) (subst (λ (y : ℕ). R (get_or xs from_i.0 d) y) (sym from_j.2) here)
+
+  -- in another order
+  pub AllPairs-permutation : (xs ys : List ℕ) → IsPermutation xs ys → AllPairs R xs → AllPairs R ys
+  AllPairs-permutation xs ys moved all = IsPermutation-keeps xs (AllPairs R) all AllPairs-swap ys moved
+
+-- the numbers that a list has twice are the same in another order
+pub repeats-permutation : (repeats xs ys : List ℕ) → IsPermutation xs ys → HasRepeats repeats xs → HasRepeats repeats ys
+repeats-permutation repeats = AllPairs-permutation (λ a b. a ≡ b → Contains repeats a) (λ a b there same. subst (λ (x : ℕ). Contains repeats x) (sym same) (there (sym same)))

@@ -1,0 +1,6 @@
+use Rattle.std.proofs.Common.{◌≡◌, map, take}
+use Rattle.field_core.specs.Gf32.{bits_of}
+use Rattle.sketch_text.proofs.set.field_elements.Given as goal
+
+abbrev pub invariant-loop-number : goal.invariant-loop-number
+invariant-loop-number l = map bits_of l.elements.items ≡ take l.number-index l.numbers

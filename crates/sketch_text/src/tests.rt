@@ -1,0 +1,44 @@
+use super::{element_of, set_of};
+use base_types::{Kind, TextFault};
+use field_core::Gf32;
+use line_text::ReadStop;
+
+#[test]
+fn lines_end_at_lf_or_cr_and_lf(rt: HostRuntime) {
+    let set = set_of(rt.alloc(), b"0000000a\r\n\n\r\nFFFFFFFf").expect(&rt, "memory");
+    assert_eq!(rt;
+        set.as_slice(),
+        [Gf32::new(10), Gf32::new(0xffff_ffff)].as_slice()
+    );
+    let empty = set_of(rt.alloc(), b"\n\r\n").expect(&rt, "memory");
+    assert!(rt; empty.is_empty());
+}
+
+#[test]
+fn the_first_faulty_line_is_named(rt: HostRuntime) {
+    for (text, place, kind) in [
+        (b"00000001\r".as_slice(), 1, Kind::DigitCount),
+        (b"\xc3\xa4\xc3\xa4\xc3\xa4\xc3\xa4\n", 1, Kind::BadDigit),
+        (b"00000001\n\n00000001\n00000000\n", 3, Kind::Repeated),
+        (b"00000001\n00000000\n00000001\n", 2, Kind::Zero),
+        (
+            b"00000002\n00000001\n0000000\n0000000x\n",
+            3,
+            Kind::DigitCount,
+        ),
+        (
+            b"0000000b\n00000005\n0000000B\n00000005\n",
+            3,
+            Kind::Repeated,
+        ),
+    ] {
+        let stop = set_of(rt.alloc(), text).err();
+        assert_eq!(rt; stop, Some(ReadStop::Fault(TextFault { place, kind })));
+    }
+}
+
+#[test]
+fn an_element_has_eight_digits(rt: HostRuntime) {
+    assert_eq!(rt; element_of(b"0102aBfF"), Ok(0x0102_abff));
+    assert_eq!(rt; element_of(b"0102aBf"), Err(Kind::DigitCount));
+}

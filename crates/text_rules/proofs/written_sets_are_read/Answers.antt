@@ -1,5 +1,0 @@
-use Rattle.text_rules.proofs.Written.{set_in-text}
-use Rattle.text_rules.proofs.written_sets_are_read.Goals as goal
-
-pub returns : goal.returns
-returns c = set_in-text

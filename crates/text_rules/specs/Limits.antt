@@ -1,7 +1,0 @@
--- How much text a command reads.
-use Rattle.std.specs.Prelude.{ℕ}
-use Rattle.text_rules.specs.declared.limits.TheConstants.{INPUT_LIMIT}
-
--- how many bytes of standard input a command reads
-abbrev pub input_limit : ℕ
-input_limit = INPUT_LIMIT
