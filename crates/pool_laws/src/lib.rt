@@ -23,7 +23,7 @@ pub fn written_pools_are_read()
 /// It does nothing when it runs: its contract is the theorem.
 pub fn insertions_keep_pools()
     ensures kept { (pool : List Transaction) (tx : List ℕ) → IsPool pool → IsTransaction (transaction_of tx) → IsPool (insertion_of pool tx).pool }
-    ensures told { (pool : List Transaction) (tx : List ℕ) → IsOutcome (insertion_of pool tx).inserted pool tx (insertion_of pool tx).pool }
+    ensures outcome { (pool : List Transaction) (tx : List ℕ) → IsOutcome (insertion_of pool tx).inserted pool tx (insertion_of pool tx).pool }
 {}
 
 /// An id has 32 bytes. It does nothing when it runs: its contract is the theorem.

@@ -5,5 +5,5 @@ use Rattle.pool_laws.proofs.insertions_keep_pools.Goals as goal
 pub returns-clause-kept : goal.returns-clause-kept
 returns-clause-kept c = insertion_of-kept
 
-pub returns-clause-told : goal.returns-clause-told
-returns-clause-told c = insertion_of-outcome
+pub returns-clause-outcome : goal.returns-clause-outcome
+returns-clause-outcome c = insertion_of-outcome
