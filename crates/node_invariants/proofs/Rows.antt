@@ -23,7 +23,7 @@ use Rattle.node_rules.specs.Barrier.{is_barrier, is_barrier_end, with_wants_requ
 use Rattle.node_rules.specs.Handshake.{version_by, on_unexpected, in_greeting, offer_by, on_wtxidrelay, verack_by, in_greeted, has_no_relay, greeted_state, with_peer, after_handshake, level_of, reply}
 use Rattle.node_rules.specs.Invariant.{IsOffer}
 use Rattle.node_rules.specs.Inventory.{unknown_ids, without_announced, inv_by, with_wanted, with_asked, with_requests, on_getdata, on_notfound, transaction_by}
-use Rattle.node_rules.specs.Opener.{opener_sketch, round_after_sketch, remaining_set, answer_to_sketch, answer_to, on_answer, extension_request, on_fallback, has_extension_left, length_fault, on_no_answer, on_decoding, move_or_fault, after_sketch, sketch_by, round_start, plain_start}
+use Rattle.node_rules.specs.Opener.{opener_sketch, round_after_sketch, remaining_set, answer_to_sketch, answer_to, on_answer, extension_request, on_fallback, has_extension_left, length_fault, on_no_answer, on_decoding, value_or_fault, after_sketch, sketch_by, round_start, plain_start}
 use Rattle.node_rules.specs.Stages.{requested_extensions, sent_extensions, is_idle, is_after_handshake}
 use Rattle.node_rules.specs.State.{NodeState, Offer, extensions_allowed, initiator_of, open_wants, taken_room}
 use Rattle.node_rules.specs.Steps.{opener_row, accepter_row, in_relay, in_phase, on_message, after_start, round_by, on_start_by, on_start}
@@ -168,15 +168,15 @@ module _ (s : NodeState) (P : Turn → Type 0) (rows : EachRow s P) where
     on_decoding-rows (Some es) e = rows.answer n bytes es awaits e
     on_decoding-rows None e = on_no_answer-rows (has_extension_left s.machine (round_after_sketch s.machine s.set n bytes) n) refl
 
-  move_or_fault-rows : (fault : Option End) (m : Move) → (fault ≡ None → P (after_move s (Ok m))) → P (after_move s (move_or_fault fault m))
-  move_or_fault-rows None m h = h refl
-  move_or_fault-rows (Some e) m h = rows.ends e
+  value_or_fault-rows : (fault : Option End) (m : Move) → (fault ≡ None → P (after_move s (Ok m))) → P (after_move s (value_or_fault fault m))
+  value_or_fault-rows None m h = h refl
+  value_or_fault-rows (Some e) m h = rows.ends e
 
   sketch_by-rows : (o : Option ℕ) (bytes : List ℕ) → requested_extensions s.machine.phase ≡ o → IsTrue (are_bytes bytes) → IsReconciling role.Opener s → P (after_move s (sketch_by (answer_to_sketch o s.machine s.set bytes) o (initiator_of s) s.set bytes))
   unfolding sketch_by
   sketch_by-rows None bytes e ranged opener = rows.ends (end.Misplaced name.Sketch s.machine.phase)
   sketch_by-rows (Some n) bytes e ranged opener =
-      move_or_fault-rows (length_fault s.machine n (length bytes)) (after_sketch (answer_to (round_after_sketch s.machine s.set n bytes)) (initiator_of s) s.set n bytes)
+      value_or_fault-rows (length_fault s.machine n (length bytes)) (after_sketch (answer_to (round_after_sketch s.machine s.set n bytes)) (initiator_of s) s.set n bytes)
       (λ fits. on_decoding-rows n bytes (record { opener = opener; waits = e; fits = fits; ranged = ranged }) (answer_to (round_after_sketch s.machine s.set n bytes)) refl)
 
   opener_row-rows : (r : Role) (plain : Bool) (n : Name) (row : Result Move End) → s.config.role ≡ r → s.plain ≡ plain → (IsReconciling role.Opener s → P (after_move s row)) → P (opener_row r plain n s row)

@@ -5,3 +5,4 @@ pub mod Handling
 pub mod Streaming
 pub mod NewIds
 pub mod Starving
+pub mod Questions

@@ -18,7 +18,7 @@ use Rattle.node_rules.specs.Accepter.{accepter_reqrecon, accepter_extension, acc
 use Rattle.node_rules.specs.Barrier.{is_barrier_end, pong_by}
 use Rattle.node_rules.specs.Handshake.{version_by, on_unexpected, in_greeting, offer_by, verack_by, in_greeted, has_no_relay}
 use Rattle.node_rules.specs.Inventory.{unknown_ids, without_announced, inv_by, transaction_by}
-use Rattle.node_rules.specs.Opener.{opener_sketch, sketch_by, move_or_fault, length_fault, after_sketch, answer_to_sketch, on_decoding, on_no_answer, has_extension_left, round_after_sketch, remaining_set}
+use Rattle.node_rules.specs.Opener.{opener_sketch, sketch_by, value_or_fault, length_fault, after_sketch, answer_to_sketch, on_decoding, on_no_answer, has_extension_left, round_after_sketch, remaining_set}
 use Rattle.node_rules.specs.Stages.{requested_extensions, sent_extensions, is_idle}
 use Rattle.node_rules.specs.State.{NodeState, Machine, Initiator, Round, Inbox, Offer, initiator_of, extensions_allowed, taken_room}
 use Rattle.node_rules.specs.Steps.{opener_row, accepter_row, in_relay, in_phase, on_message, with_inbox}
@@ -70,15 +70,15 @@ unfolding on_decoding
 on_decoding-grown (Some es) i r n set = record { more = _; grown = refl }
 on_decoding-grown None i r n set = on_no_answer-grown (has_extension_left i.machine r n) i r n set
 
-move_or_fault-grown : (f : Option End) (m : Machine) (move : Move) → HasGrown m.reports move.initiator.machine.reports → MoveGrows m (move_or_fault f move)
-move_or_fault-grown None m move h = h
-move_or_fault-grown (Some e) m move h = tt
+value_or_fault-grown : (f : Option End) (m : Machine) (move : Move) → HasGrown m.reports move.initiator.machine.reports → MoveGrows m (value_or_fault f move)
+value_or_fault-grown None m move h = h
+value_or_fault-grown (Some e) m move h = tt
 
 sketch_by-grown : (answer : Option (List ℕ)) (o : Option ℕ) (i : Initiator) (set : List Member) (bytes : List ℕ) → MoveGrows i.machine (sketch_by answer o i set bytes)
 unfolding sketch_by
 sketch_by-grown answer None i set bytes = tt
 sketch_by-grown answer (Some n) i set bytes =
-    move_or_fault-grown (length_fault i.machine n (length bytes)) i.machine (after_sketch answer i set n bytes) (on_decoding-grown answer i (round_after_sketch i.machine set n bytes) n (remaining_set n set))
+    value_or_fault-grown (length_fault i.machine n (length bytes)) i.machine (after_sketch answer i set n bytes) (on_decoding-grown answer i (round_after_sketch i.machine set n bytes) n (remaining_set n set))
 
 reqrecon_by-grown : (idle : Bool) (m : Machine) (set : List Member) (size q : ℕ) → ResponseGrows m (reqrecon_by idle m set size q)
 unfolding reqrecon_by

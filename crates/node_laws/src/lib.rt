@@ -1,17 +1,22 @@
 //! Laws of the steps of a node, in `proofs/`, each stated by a function.
 #![tactic(auto)]
 
-ghost use Rattle.std.specs.Prelude.{◌≡◌, ◌||◌, ℕ, ◌+◌, ◌^◌, ◌<◌, ◌≤◌, Bool, true, false, Some, None, List, [], ◌++◌, length};
+ghost use Rattle.std.specs.Prelude.{◌≡◌, ◌||◌, ℕ, ◌+◌, ◌^◌, ◌<◌, ◌≤◌, Bool, true, false, Some, None, Ok, Err, option_and_then, List, [], ◌++◌, length};
 ghost use Rattle.base_types.specs.declared.lists.Hash32.{Hash32};
 ghost use Rattle.wire_rules.specs.Layout.{wire_bytes};
 ghost use Rattle.wire_rules.specs.Stream.{Stream, StreamFault, Stop, IsUnfinished, front_of, later_offset};
 ghost use Rattle.wire_rules.specs.declared.limits.TheConstants.{HEADER_LEN, PAYLOAD_LIMIT};
 ghost use Rattle.wire_rules.specs.declared.message.Message.{Message};
 ghost use Rattle.node_rules.specs.Additions.{on_addition};
+ghost use Rattle.std.specs.declared.option.Option.{Option};
+ghost use Rattle.sketch_rules.specs.Answers.{answer_of};
+ghost use Rattle.pool_rules.specs.Snapshots.{Member};
+ghost use Rattle.node_rules.specs.Opener.{after_sketch, initiator_question, opener_sketch};
+ghost use Rattle.node_rules.specs.Stages.{requested_extensions};
 ghost use Rattle.pool_rules.specs.Pools.{Transaction, is_same_id, without_id};
 ghost use Rattle.node_rules.specs.Inventory.{new_ids};
 ghost use Rattle.node_rules.specs.Memory.{IsOutOfMemoryIn, view_behind_piece, view_behind_addition, view_behind_start};
-ghost use Rattle.node_rules.specs.State.{Inbox, NodeState, NodeView};
+ghost use Rattle.node_rules.specs.State.{Inbox, Initiator, NodeState, NodeView};
 ghost use Rattle.node_rules.specs.Steps.{on_message, on_messages, at_front, on_frames, on_unread, turn_sequence, on_piece, on_start, with_inbox};
 ghost use Rattle.node_rules.specs.Turns.{unchanged, refusal};
 ghost use Rattle.node_rules.specs.declared.added.Added.{Added};
@@ -87,4 +92,13 @@ pub fn nodes_out_of_memory_stay()
     ensures by_piece { (v : NodeView) (piece : List ℕ) → v.out_of_memory ≡ true → view_behind_piece v piece ≡ v }
     ensures by_addition { (v : NodeView) (tx : List ℕ) → v.out_of_memory ≡ true → view_behind_addition v tx ≡ v }
     ensures by_round { (v : NodeView) → v.out_of_memory ≡ true → view_behind_start v ≡ v }
+{}
+
+/// A sketch message at an opener leads to a question, which is a sketch or none, and then to what the answer to it makes of
+/// the round: so the message may be handled in two steps, with the search for the answer between them. It does nothing
+/// when it runs: its contract is the theorem.
+pub fn sketches_are_questions()
+    ensures refused { (i : Initiator) (set : List Member) (bytes : List ℕ) (e : End) → initiator_question i.machine set bytes ≡ Err e → opener_sketch i set bytes ≡ Err e }
+    ensures answered { (i : Initiator) (set : List Member) (bytes : List ℕ) (n : ℕ) (q : Option (List ℕ)) → requested_extensions i.machine.phase ≡ Some n
+        → initiator_question i.machine set bytes ≡ Ok q → opener_sketch i set bytes ≡ Ok (after_sketch (option_and_then answer_of q) i set n bytes) }
 {}

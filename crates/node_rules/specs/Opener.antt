@@ -144,16 +144,16 @@ length_fault m zero len = if is_first_length len then None else Some (end.Sketch
 length_fault m (suc n) len =
     if len == extension_length m.round.capacity n then None else Some (end.SketchLength len (extension_length m.round.capacity n))
 
-abbrev pub move_or_fault : {A : Type 0} → Option End → A → Result A End
-move_or_fault None x = Ok x
-move_or_fault (Some e) x = Err e
+abbrev pub value_or_fault : {A : Type 0} → Option End → A → Result A End
+value_or_fault None x = Ok x
+value_or_fault (Some e) x = Err e
 
 -- ---- a sketch message
 
 -- the question that a sketch message leads to, by the number of extensions that were asked for
 unfoldable pub question_by : Option ℕ → Machine → List Member → List ℕ → Result (Option (List ℕ)) End
 question_by None m set bytes = Err (end.Misplaced name.Sketch m.phase)
-question_by (Some n) m set bytes = move_or_fault (length_fault m n (length bytes)) (question (round_after_sketch m set n bytes))
+question_by (Some n) m set bytes = value_or_fault (length_fault m n (length bytes)) (question (round_after_sketch m set n bytes))
 
 abbrev pub initiator_question : Machine → List Member → List ℕ → Result (Option (List ℕ)) End
 initiator_question m set bytes = question_by (requested_extensions m.phase) m set bytes
@@ -161,7 +161,7 @@ initiator_question m set bytes = question_by (requested_extensions m.phase) m se
 -- what a sketch message does, by the answer to that question too
 unfoldable pub sketch_by : Option (List ℕ) → Option ℕ → Initiator → List Member → List ℕ → Result Move End
 sketch_by answer None i set bytes = Err (end.Misplaced name.Sketch i.machine.phase)
-sketch_by answer (Some n) i set bytes = move_or_fault (length_fault i.machine n (length bytes)) (after_sketch answer i set n bytes)
+sketch_by answer (Some n) i set bytes = value_or_fault (length_fault i.machine n (length bytes)) (after_sketch answer i set n bytes)
 
 abbrev pub answer_to_sketch : Option ℕ → Machine → List Member → List ℕ → Option (List ℕ)
 answer_to_sketch None m set bytes = None
