@@ -95,7 +95,7 @@ pub record EachRow (s : NodeState) (P : Turn → Type 0) : Type 0 where
       → P (unchanged (with_requests (record s { pool = s.pool ++ t ∷ [] }) (without_id s.wants.asked t.id)))
   -- pings and pongs
   pub ping : (n : ℕ) → is_after_handshake s.machine.phase ≡ true → IsMessage (message.Ping n) → P (turn_with s (message.Pong n ∷ []))
-  pub pong : s.config.role ≡ role.Opener → is_barrier s.machine.phase ≡ true → P (turn_with (asks s) (getdata_of s.wants.wanted))
+  pub pong : s.config.role ≡ role.Opener → is_barrier s.machine.phase ≡ true → P (turn_with (with_wants_requested s) (getdata_of s.wants.wanted))
   -- additions
   pub addition : (t : Transaction) → IsAddable s t → P (unchanged (with_pooled s t))
   pub announcement : (t : Transaction) → IsAddable s t → is_listed (open_wants s) t.id ≡ false → is_after_handshake s.machine.phase ≡ true → s.plain ≡ true → P (turn_with (with_pooled s t) (inv_of (t.id ∷ [])))
