@@ -81,7 +81,7 @@ module _ (s : NodeState) (h : IsNode s) where
     conversing = conversing;
     bounded = bounded;
     reports = reports;
-    place = subst (λ (i : Inbox). i.offset < 2 ^ 64) (sym side.inbox) h.place;
+    offset = subst (λ (i : Inbox). i.offset < 2 ^ 64) (sym side.inbox) h.offset;
     unread = subst (λ (i : Inbox). IsTrue (are_bytes i.unread)) (sym side.inbox) h.unread;
   }
 
@@ -105,7 +105,7 @@ module _ (s : NodeState) (h : IsNode s) where
 
   -- with another inbox, and ended or not
   beside : (i : Inbox) (ended : Option End) → i.offset < 2 ^ 64 → are_bytes i.unread ≡ true → IsNode (record s { inbox = i; ended = ended })
-  beside i ended place unread = record {
+  beside i ended offset unread = record {
     config = h.config;
     store = record {
       pool = h.store.pool;
@@ -117,7 +117,7 @@ module _ (s : NodeState) (h : IsNode s) where
     conversing = beside-conversing s h.conversing i ended;
     bounded = h.bounded;
     reports = h.reports;
-    place = place;
+    offset = offset;
     unread = unread;
   }
 
@@ -129,7 +129,7 @@ opening-node c pool config is = record {
   conversing = opening-conversing c pool;
   bounded = opening-bounded c pool;
   reports = tt;
-  place = lit< tt;
+  offset = lit< tt;
   unread = refl;
 }
 
@@ -144,7 +144,7 @@ unchanged-sound : (s : NodeState) → IsNode s → IsSoundTurn (unchanged s)
 unchanged-sound s h = record { node = h; sendable = tt }
 
 refusal-sound : (s : NodeState) (e : End) → IsNode s → IsSoundTurn (refusal s e)
-refusal-sound s e h = record { node = beside s h s.inbox (Some e) h.place h.unread; sendable = tt }
+refusal-sound s e h = record { node = beside s h s.inbox (Some e) h.offset h.unread; sendable = tt }
 
 on_message-sound : (s : NodeState) (m : Message) → IsNode s → IsMessage m → IsSoundTurn (on_message s m)
 on_message-sound s m h sound = record { node = on_message-node s h m sound; sendable = on_message-sendable s h m sound }
@@ -190,12 +190,12 @@ on_frames-sound (suc n) s h = at_front-sound (front_of s.config.magic s.inbox.of
 
 without_unread_by-sound : (e : Option End) (t : Turn) → IsSoundTurn t → IsSoundTurn (without_unread_by e t)
 unfolding without_unread_by
-without_unread_by-sound (Some e) t h = record { node = beside t.state h.node (record t.state.inbox { unread = [] }) t.state.ended h.node.place refl; sendable = h.sendable }
+without_unread_by-sound (Some e) t h = record { node = beside t.state h.node (record t.state.inbox { unread = [] }) t.state.ended h.node.offset refl; sendable = h.sendable }
 without_unread_by-sound None t h = h
 
 piece_node : (s : NodeState) (piece : List ℕ) → IsNode s → are_bytes piece ≡ true → IsNode (with_piece s piece)
 piece_node s piece h bytes =
-    beside s h (record s.inbox { unread = s.inbox.unread ++ piece }) s.ended h.place
+    beside s h (record s.inbox { unread = s.inbox.unread ++ piece }) s.ended h.offset
     (list_all-append (λ b. nat_lt b (2 ^ 8)) s.inbox.unread piece ∙ and_from (are_bytes s.inbox.unread) (are_bytes piece) h.unread bytes)
 
 on_piece_by-sound : (e : Option End) (s : NodeState) (piece : List ℕ) → IsNode s → are_bytes piece ≡ true → IsSoundTurn (on_piece_by e s piece)
