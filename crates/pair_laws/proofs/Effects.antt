@@ -3,7 +3,7 @@ use Rattle.std.proofs.Common.{◌≡◌, ℕ, ◌+◌, ◌-◌, ◌^◌, ◌≤�
 use Rattle.wire_rules.specs.declared.message.Message.{Message}
 use Rattle.pair_rules.specs.World.{World, Effect, no_effect, effect_sequence, unless_ended, run_from, effect_of, has_end}
 use Rattle.pair_rules.specs.declared.event.Event.{Event}
-use Rattle.pair_laws.proofs.Runs.{run_from-ended}
+use Rattle.pair_rules.proofs.Runs.{run_from-ended}
 
 -- no count of full additions passes its last value
 unless_ended-few : (over : Bool) (w : World) (x : Effect) (next : World → Effect) → (unless_ended over w x next).full ≤ 2 ^ 64 - 1

@@ -4,9 +4,9 @@ use Rattle.std.specs.Prelude.{codes}
 use Rattle.line_rules.specs.Lines.{line}
 use Rattle.node_rules.specs.declared.end.End.TheVariants as end
 use Rattle.pair_rules.specs.World.{World, no_effect}
-use Rattle.pair_laws.proofs.RoundExample.{last, script as one_round}
-use Rattle.pair_laws.proofs.Samples.{new_pair}
-use Rattle.pair_laws.proofs.TwoRounds.{two_rounds, script}
+use Rattle.pair_rules.proofs.RoundExample.{last, script as one_round}
+use Rattle.pair_rules.proofs.Samples.{new_pair}
+use Rattle.pair_rules.proofs.TwoRounds.{two_rounds, script}
 use Rattle.protocol_text_rules.specs.Scripts.{script_in}
 use Rattle.protocol_text_rules.specs.Pairs.{run_text, session_text, script_world, simulation}
 use Rattle.protocol_text_rules.proofs.Samples.{scripting}

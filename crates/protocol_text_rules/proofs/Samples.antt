@@ -1,6 +1,6 @@
 -- What the worked examples share.
 use Rattle.wire_rules.proofs.Samples.{streaming, showing}
-use Rattle.pair_laws.proofs.Samples.{happening}
+use Rattle.pair_rules.proofs.Samples.{happening}
 use Rattle.protocol_text_rules.specs.Ends.{phase_text, ending_text, frame_fault_text, payload_kind_text, end_text, stream_kind_text}
 use Rattle.protocol_text_rules.specs.Generator.{generated_from}
 use Rattle.protocol_text_rules.specs.Pairs.{report_lines}

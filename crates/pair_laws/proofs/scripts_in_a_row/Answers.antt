@@ -1,5 +1,5 @@
 -- Each clause is a lemma.
-use Rattle.pair_laws.proofs.Runs.{run_from-ended}
+use Rattle.pair_rules.proofs.Runs.{run_from-ended}
 use Rattle.pair_laws.proofs.Effects.{run_from-both, run_from-few}
 use Rattle.pair_laws.proofs.scripts_in_a_row.Goals as goal
 

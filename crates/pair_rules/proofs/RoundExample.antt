@@ -22,8 +22,8 @@ use Rattle.pair_rules.specs.Rounds.{IsReconcilable, HasBothSnapshots, IsFinished
 use Rattle.pair_rules.specs.World.{World, Effect, IsDrained, run, run_from, unless_ended, effect_of, effect_sequence, deliveries}
 use Rattle.pair_rules.specs.declared.event.Event.{Event}
 use Rattle.pair_rules.specs.declared.event.Event.TheVariants as event
-use Rattle.pair_laws.proofs.Runs.{run_from-append}
-use Rattle.pair_laws.proofs.Samples.{happening, new_pair, drain, sketch_effect}
+use Rattle.pair_rules.proofs.Runs.{run_from-append}
+use Rattle.pair_rules.proofs.Samples.{happening, new_pair, drain, sketch_effect}
 
 abbrev all : ℕ
 all = 18446744073709551615

@@ -1,0 +1,4 @@
+pub mod Samples
+pub mod Runs
+pub mod RoundExample
+pub mod TwoRounds
