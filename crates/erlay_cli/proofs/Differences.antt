@@ -1,17 +1,13 @@
 -- The sum of the sketches of two sets, decoded.
-use Rattle.std.proofs.Common.{◌≡◌, inl, inr, ℕ, ◌^◌, ◌<◌, ◌≤◌, List, [], ◌∷◌, ◌++◌, length, get_or, map, sym, ap, subst, ◌∙◌, arith, length-append}
-use Rattle.std.specs.List.{All, Contains}
-use Rattle.std.proofs.lemmas.List.Elements.{Contains-get_or}
+use Rattle.std.proofs.Common.{◌≡◌, ℕ, ◌^◌, ◌<◌, ◌≤◌, List, [], ◌∷◌, ◌++◌, length, map, sym, ap, subst, ◌∙◌, arith, length-append}
+use Rattle.std.specs.List.{All}
 use Rattle.sketch_rules.specs.Ops.{sketch_by}
-use Rattle.sketch_rules.specs.Elements.{numbers}
 use Rattle.sketch_rules.specs.Sets.{difference}
 use Rattle.sketch_rules.specs.Sketches.{IsCapacity, digits_of, merged, sketch_of}
 use Rattle.sketch_rules.specs.Answers.{Answer as SketchAnswer}
 use Rattle.sketch_laws.proofs.Differences.{length-sketch_at, of_difference, difference_answers}
 use Rattle.sketch_laws.proofs.Merging.{merged-sketches}
 use Rattle.sketch_laws.proofs.NumberedLists.{elements_of}
-use Rattle.sketch_laws.proofs.Rising.{Rises-from_AllPairs}
-use Rattle.sketch_laws.proofs.Sets.{has-from_Contains, Contains-from_has, difference-from, difference-rises}
 use Rattle.sketch_laws.proofs.SketchNumbers.{sketch_by-numbers}
 use Rattle.sketch_laws.proofs.Unique.{answer_at-is}
 use Rattle.field_core.specs.Gf32.{bits_of, field, numbered, ops, ring}
