@@ -222,28 +222,6 @@ const FAILING: &[Failing] = &[
     ("make 1", "00000001\n", 1, 5, 6, "read"),
     // The empty set has no lines, and none is written.
     ("decode", "00000000", 0, 1, 0, ""),
-    // Words without form read nothing.
-    ("", "", 1, 0, 1, "usage\n"),
-    ("make", "", 1, 0, 1, "usage\n"),
-    ("make ", "", 1, 0, 1, "usage\n"),
-    ("make 0", "", 1, 0, 1, "usage\n"),
-    ("make 00", "", 1, 0, 1, "usage\n"),
-    ("make 01", "", 1, 0, 1, "usage\n"),
-    ("make 4097", "", 1, 0, 1, "usage\n"),
-    ("make 18446744073709551615", "", 1, 0, 1, "usage\n"),
-    ("make 18446744073709551617", "", 1, 0, 1, "usage\n"),
-    ("make +1", "", 1, 0, 1, "usage\n"),
-    ("make -1", "", 1, 0, 1, "usage\n"),
-    ("make \t1", "", 1, 0, 1, "usage\n"),
-    ("make 1\t", "", 1, 0, 1, "usage\n"),
-    ("make 1a", "", 1, 0, 1, "usage\n"),
-    ("make x", "", 1, 0, 1, "usage\n"),
-    ("make 3 3", "", 1, 0, 1, "usage\n"),
-    ("merge 2", "", 1, 0, 1, "usage\n"),
-    ("merge merge", "", 1, 0, 1, "usage\n"),
-    ("decode 3", "", 1, 0, 1, "usage\n"),
-    ("decoded", "", 1, 0, 1, "usage\n"),
-    ("Make 3", "", 1, 0, 1, "usage\n"),
 ];
 
 #[test]
@@ -258,6 +236,47 @@ fn failed_calls_end_the_run(rt: HostRuntime) -> Result<(), Fail> {
         let (ended, wrote) = outcome(alloc, words, input.as_bytes(), streams)?;
         assert_eq!(rt; wrote.as_str(), *text, "{words}: {ended}");
         assert_eq!(rt; ended, *code, "{words}");
+    }
+    Ok(())
+}
+
+/// Words that ask for no command.
+const FORMLESS: &[&str] = &[
+    "",
+    "make",
+    "make ",
+    "make 0",
+    "make 00",
+    "make 01",
+    "make 4097",
+    "make 18446744073709551615",
+    "make 18446744073709551617",
+    "make +1",
+    "make -1",
+    "make \t1",
+    "make 1\t",
+    "make 1a",
+    "make x",
+    "make 3 3",
+    "merge 2",
+    "merge merge",
+    "decode 3",
+    "decoded",
+    "Make 3",
+];
+
+#[test]
+fn words_without_form_read_nothing(rt: HostRuntime) -> Result<(), Fail> {
+    let alloc = rt.alloc();
+    let streams = Streams {
+        cut: 1,
+        failing_read: 1,
+        failing_write: 0,
+    };
+    for words in FORMLESS {
+        let (ended, wrote) = outcome(alloc, words, b"", streams)?;
+        assert_eq!(rt; wrote.as_str(), "usage\n", "{words}");
+        assert_eq!(rt; ended, 1, "{words}");
     }
     // Arguments that aren't text, and arguments for which memory ran out.
     for (kind, code, text) in [
