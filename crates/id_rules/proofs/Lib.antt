@@ -1,3 +1,4 @@
 pub mod Samples
 pub mod Examples
 pub mod Bytes
+pub mod Lists

@@ -15,6 +15,8 @@ use Rattle.pool_rules.specs.Pools.{Transaction, IsTransaction, transaction_of}
 use Rattle.pool_rules.specs.Snapshots.{Member, sketched_shorts}
 use Rattle.pool_rules.specs.declared.limits.TheConstants.{FIRST_LIMIT}
 use Rattle.pool_rules.specs.declared.report.Report.{Report}
+use Rattle.id_rules.proofs.Lists.{all_append}
+use Rattle.pool_laws.proofs.Capacity.{next_q-small}
 use Rattle.node_rules.specs.Accepter.{round_of_request, extension_sketch}
 use Rattle.node_rules.specs.Additions.{on_addition}
 use Rattle.node_rules.specs.Handshake.{level_of}
@@ -28,8 +30,7 @@ use Rattle.node_rules.specs.Turns.{Turn, after_move}
 use Rattle.node_rules.specs.declared.config.Config.{Config}
 use Rattle.node_rules.specs.declared.end.End.{End}
 use Rattle.node_rules.specs.declared.end.End.TheVariants as end
-use Rattle.node_invariants.proofs.Lists.{all_append}
-use Rattle.node_invariants.proofs.Numbers.{mine_few, next_q_small, sums_small}
+use Rattle.node_invariants.proofs.Numbers.{mine_few, sums_small}
 use Rattle.node_invariants.proofs.Rows.{EachRow, IsAwaitingSketch, on_message-rows, on_addition-rows, on_start-rows}
 use Rattle.node_invariants.proofs.Stages.{HasNoSketch, greeting-rests, greeted-rests, idle-rests, barrier-rests, behind-rests, is_idle-rests, is_barrier-rests, phase_after_fetch-asked, phase_after_fetch-sent_extensions, asked-waiting_phase, sent_extensions-waiting_phase, sent_extensions-sent_phase, asked-sent_phase, sent_extensions-unasked, some_is}
 
@@ -161,7 +162,7 @@ module _ (s : NodeState) (b : IsBounded s.machine s.requests) where
   closed_bounded next reports coefficient p le = resting (record s.machine { phase = next; round = no_round; reports = reports }) (record s.requests { coefficient = coefficient }) p b.least b.most refl le b.begun
 
   answer_coefficient : (r : Round) (es : List ℕ) → answer_to r ≡ Some es → coefficient_after r.snapshot es ≤ 65534
-  answer_coefficient r es e = next_q_small (length (own_short_ids r.snapshot es)) (length (missing_short_ids r.snapshot es)) (length (sketched_shorts r.snapshot)) (mine_few r.snapshot es (answer-is r es e).rises)
+  answer_coefficient r es e = next_q-small (length (own_short_ids r.snapshot es)) (length (missing_short_ids r.snapshot es)) (length (sketched_shorts r.snapshot)) (mine_few r.snapshot es (answer-is r es e).rises)
 
   more_bounded : (n : ℕ) (bytes : List ℕ) → IsAwaitingSketch s n bytes → has_extension_left s.machine (round_after_sketch s.machine s.set n bytes) n ≡ true → Bounds (after_move s (Ok (extension_request (initiator_of s) (round_after_sketch s.machine s.set n bytes) n (remaining_set n s.set))))
   unfolding IsRoundOf

@@ -6,11 +6,11 @@ use Rattle.id_rules.specs.Ids.{KeyPair}
 use Rattle.pool_rules.specs.Pools.{Transaction, IsTransaction, IsPool, pool_ids}
 use Rattle.pool_rules.specs.Snapshots.{Member, ids_of}
 use Rattle.pool_rules.specs.declared.limits.TheConstants.{POOL_LIMIT}
+use Rattle.pool_laws.proofs.IdLists.{all_listed}
+use Rattle.id_rules.proofs.Lists.{all_filter, filter_few}
+use Rattle.pool_laws.proofs.PoolIds.{ids_within, is_in_pool-is_listed}
+use Rattle.pool_laws.proofs.Ids.{wtxid-bytes}
 use Rattle.node_rules.specs.Invariant.{IsMember, AreMembers}
-use Rattle.node_invariants.proofs.Ids.{all_listed}
-use Rattle.node_invariants.proofs.Lists.{all_filter, filter_few}
-use Rattle.node_invariants.proofs.Numbers.{ids_within, wtxid_bytes}
-use Rattle.node_invariants.proofs.Rooms.{pool_listed}
 use Rattle.node_invariants.proofs.Sets.{pooled_ids}
 use Rattle.node_invariants.proofs.Stores.{IsId}
 
@@ -25,11 +25,11 @@ members_fit keys pool ms room h = let le = ids_within (ids_of ms) pool h.once (p
 
 pub pool_fits : (pool : List Transaction) → AllByRecursion IsTransaction pool → AllByRecursion IsId (pool_ids pool)
 pool_fits [] h = tt
-pool_fits (t ∷ ts) h = (subst IsId (sym h.0.named) (wtxid_bytes t.bytes), pool_fits ts h.1)
+pool_fits (t ∷ ts) h = (subst IsId (sym h.0.named) (wtxid-bytes t.bytes), pool_fits ts h.1)
 
 member_ids : (keys : KeyPair) (pool : List Transaction) (ms : List Member) → AllByRecursion IsTransaction pool → AllByRecursion (IsMember keys pool) ms → AllByRecursion (λ m. IsId m.id) ms
 member_ids keys pool [] each h = tt
-member_ids keys pool (m ∷ ms) each h = (all_listed IsId (pool_ids pool) (pool_fits pool each) m.id (sym (pool_listed pool m.id) ∙ h.0.pooled), member_ids keys pool ms each h.1)
+member_ids keys pool (m ∷ ms) each h = (all_listed IsId (pool_ids pool) (pool_fits pool each) m.id (sym (is_in_pool-is_listed pool m.id) ∙ h.0.pooled), member_ids keys pool ms each h.1)
 
 pub members_announce : (keys : KeyPair) (pool : List Transaction) (ms : List Member) → IsPool pool → AreMembers keys pool ms → IsAnnounceable ms
 members_announce keys pool ms p h = record { few = members_fit keys pool ms p.count h; ids = member_ids keys pool ms p.each h.each }

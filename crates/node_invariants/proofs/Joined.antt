@@ -1,11 +1,9 @@
 -- All that holds of a node at every moment is kept by each of its steps, also where messages come in pieces of bytes, and
 -- what it sends may be sent.
-use Rattle.std.proofs.Common.{◌≡◌, ℕ, zero, suc, ◌^◌, ◌<◌, ◌&&◌, nat_lt, true, List, [], ◌∷◌, ◌++◌, length, take, drop, Option, Some, None, Result, Ok, Err, IsTrue, refl, sym, ◌∙◌, subst, lit<}
+use Rattle.std.proofs.Common.{◌≡◌, ℕ, zero, suc, ◌^◌, ◌<◌, true, List, [], ◌∷◌, ◌++◌, length, take, drop, Option, Some, None, Result, Ok, Err, IsTrue, refl, sym, subst, lit<}
 use Rattle.std.specs.List.{AllByRecursion}
-use Rattle.std.proofs.lemmas.Bool.{and_from, and_parts}
 use Rattle.std.proofs.lemmas.List.{take-append-drop}
-use Rattle.std.proofs.lemmas.List.Folds.{list_all-append}
-use Rattle.id_rules.specs.Bytes.{are_bytes, is_tx_length}
+use Rattle.id_rules.specs.Bytes.{are_bytes}
 use Rattle.wire_rules.specs.Limits.{IsMessage}
 use Rattle.wire_rules.specs.Reading.{message_of}
 use Rattle.wire_rules.specs.Stream.{Front, PartialFrame, WholeFrame, FaultyFrame, front_of, later_offset}
@@ -13,10 +11,11 @@ use Rattle.wire_rules.specs.declared.faults.PayloadFault.{PayloadFault}
 use Rattle.wire_rules.specs.declared.frame.Frame.{Frame}
 use Rattle.wire_rules.specs.declared.message.Message.{Message}
 use Rattle.wire_laws.proofs.Said.{message_of-said}
-use Rattle.wire_laws.proofs.Parts.{bytes_split}
+use Rattle.id_rules.proofs.Bytes.{bytes_join, bytes_split}
 use Rattle.stream_laws.proofs.Found.{front-found}
 use Rattle.stream_laws.proofs.Offsets.{later_offset-low}
 use Rattle.pool_rules.specs.Pools.{Transaction, IsTransaction, IsPool, transaction_of}
+use Rattle.id_rules.proofs.Lists.{all_append}
 use Rattle.node_rules.specs.Additions.{on_addition}
 use Rattle.node_rules.specs.Invariant.{IsConfig, IsNode, IsStore, IsSetUp, IsConversing, IsBounded, IsReport}
 use Rattle.node_rules.specs.State.{Inbox, NodeState, opening_state}
@@ -25,82 +24,76 @@ use Rattle.node_rules.specs.Turns.{Turn, unchanged, refusal}
 use Rattle.node_rules.specs.declared.config.Config.{Config}
 use Rattle.node_rules.specs.declared.end.End.{End}
 use Rattle.node_rules.specs.declared.end.End.TheVariants as end
+use Rattle.node_laws.specs.Later.{IsLater}
+use Rattle.node_laws.proofs.LaterSteps.{on_message-later, on_addition-later, on_start-later}
 use Rattle.node_invariants.proofs.Bounds.{on_message-bounded, on_addition-bounded, on_start-bounded, opening-bounded}
 use Rattle.node_invariants.proofs.Conversing.{on_message-conversing, on_addition-conversing, on_start-conversing, opening-conversing, beside-conversing}
-use Rattle.node_invariants.proofs.Lists.{all_append}
 use Rattle.node_invariants.proofs.Reports.{on_message-reports, on_addition-reports, on_start-reports}
 use Rattle.node_invariants.proofs.Rows.{EachRow, on_message-rows, on_addition-rows, on_start-rows}
 use Rattle.node_invariants.proofs.Sending.{on_message-sendable}
 use Rattle.node_invariants.proofs.Sets.{on_message-setup, on_addition-setup, on_start-setup, opening-setup}
 use Rattle.node_invariants.proofs.Stores.{on_message-store, on_addition-store, on_start-store, opening-store}
 
--- ---- configuration and inbox
+-- ---- what has been received
 
-record HasSameSide (s : NodeState) (t : Turn) : Type 0 where
-  pub config : t.state.config ≡ s.config
-  pub inbox : t.state.inbox ≡ s.inbox
-
-side_rows : (s : NodeState) → EachRow s (HasSameSide s)
-side_rows s = record {
-  stays = record { config = refl; inbox = refl };
-  ends = λ e. record { config = refl; inbox = refl };
-  version = λ e. record { config = refl; inbox = refl };
-  wtxidrelay = λ e. record { config = refl; inbox = refl };
-  offer = λ o e is none. record { config = refl; inbox = refl };
-  plain = λ e by_id none. record { config = refl; inbox = refl };
-  whole = λ o e by_id some. record { config = refl; inbox = refl };
-  answer = λ n bytes es a e. record { config = refl; inbox = refl };
-  more = λ n bytes a e. record { config = refl; inbox = refl };
-  fallback = λ n bytes a. record { config = refl; inbox = refl };
-  first = λ size q a e. record { config = refl; inbox = refl };
-  extension = λ n a g e. record { config = refl; inbox = refl };
-  difference = λ n success asks a g e m. record { config = refl; inbox = refl };
-  wants = λ es n. record { config = refl; inbox = refl };
-  request = λ es n. record { config = refl; inbox = refl };
-  getdata = λ es past m. record { config = refl; inbox = refl };
-  notfound = λ es past m. record { config = refl; inbox = refl };
-  known = λ t past a p. record { config = refl; inbox = refl };
-  gained = λ t past a p f. record { config = refl; inbox = refl };
-  ping = λ n past m. record { config = refl; inbox = refl };
-  pong = λ r e. record { config = refl; inbox = refl };
-  addition = λ t a. record { config = refl; inbox = refl };
-  announcement = λ t a k past plain. record { config = refl; inbox = refl };
-  member = λ t a k past whole. record { config = refl; inbox = refl };
-  round = λ r idle. record { config = refl; inbox = refl };
-  plain_round = λ r idle plain. record { config = refl; inbox = refl };
+inbox_rows : (s : NodeState) → EachRow s (λ t. t.state.inbox ≡ s.inbox)
+inbox_rows s = record {
+  stays = refl;
+  ends = λ e. refl;
+  version = λ e. refl;
+  wtxidrelay = λ e. refl;
+  offer = λ o e is none. refl;
+  plain = λ e by_id none. refl;
+  whole = λ o e by_id some. refl;
+  answer = λ n bytes es a e. refl;
+  more = λ n bytes a e. refl;
+  fallback = λ n bytes a. refl;
+  first = λ size q a e. refl;
+  extension = λ n a g e. refl;
+  difference = λ n success asks a g e m. refl;
+  wants = λ es n. refl;
+  request = λ es n. refl;
+  getdata = λ es past m. refl;
+  notfound = λ es past m. refl;
+  known = λ t past a p. refl;
+  gained = λ t past a p f. refl;
+  ping = λ n past m. refl;
+  pong = λ r e. refl;
+  addition = λ t a. refl;
+  announcement = λ t a k past plain. refl;
+  member = λ t a k past whole. refl;
+  round = λ r idle. refl;
+  plain_round = λ r idle plain. refl;
 }
 
 -- ---- messages, additions, and the start of a round
 
 module _ (s : NodeState) (h : IsNode s) where
-  node_from : (t : Turn) → HasSameSide s t → IsStore t.state → IsSetUp t.state → IsConversing t.state → IsBounded t.state.machine t.state.requests → AllByRecursion (IsReport t.state.pool) t.state.machine.reports → IsNode t.state
-  node_from t side store setup conversing bounded reports = record {
-    config = subst IsConfig (sym side.config) h.config;
+  node_from : (t : Turn) → IsLater s t.state → t.state.inbox ≡ s.inbox → IsStore t.state → IsSetUp t.state → IsConversing t.state → IsBounded t.state.machine t.state.requests → AllByRecursion (IsReport t.state.pool) t.state.machine.reports → IsNode t.state
+  node_from t later inbox store setup conversing bounded reports = record {
+    config = subst IsConfig (sym later.config) h.config;
     store = store;
     setup = setup;
     conversing = conversing;
     bounded = bounded;
     reports = reports;
-    offset = subst (λ (i : Inbox). i.offset < 2 ^ 64) (sym side.inbox) h.offset;
-    unread = subst (λ (i : Inbox). IsTrue (are_bytes i.unread)) (sym side.inbox) h.unread;
+    offset = subst (λ (i : Inbox). i.offset < 2 ^ 64) (sym inbox) h.offset;
+    unread = subst (λ (i : Inbox). IsTrue (are_bytes i.unread)) (sym inbox) h.unread;
   }
 
   pub on_message-node : (m : Message) → IsMessage m → IsNode (on_message s m).state
   on_message-node m sound =
-      node_from (on_message s m) (on_message-rows s (HasSameSide s) (side_rows s) m sound) (on_message-store s m h.store sound) (on_message-setup s m h.setup h.conversing h.store.pool.distinct sound) (on_message-conversing s m h.conversing sound)
+      node_from (on_message s m) (on_message-later s m) (on_message-rows s (λ t. t.state.inbox ≡ s.inbox) (inbox_rows s) m sound) (on_message-store s m h.store sound) (on_message-setup s m h.setup h.conversing h.store.pool.distinct sound) (on_message-conversing s m h.conversing sound)
       (on_message-bounded s m h.config h.conversing h.bounded sound) (on_message-reports s h.setup h.bounded h.reports m sound)
 
-  pub on_addition-transaction_of : (tx : List ℕ) → IsTransaction (transaction_of tx) → IsNode (on_addition s tx).turn.state
-  on_addition-transaction_of tx sound =
-      node_from (on_addition s tx).turn (on_addition-rows s (HasSameSide s) (side_rows s) tx sound) (on_addition-store s tx h.store sound) (on_addition-setup s tx h.setup h.conversing h.store.pool.distinct sound) (on_addition-conversing s tx h.conversing sound)
+  pub on_addition-node : (tx : List ℕ) → IsTransaction (transaction_of tx) → IsNode (on_addition s tx).turn.state
+  on_addition-node tx sound =
+      node_from (on_addition s tx).turn (on_addition-later s tx) (on_addition-rows s (λ t. t.state.inbox ≡ s.inbox) (inbox_rows s) tx sound) (on_addition-store s tx h.store sound) (on_addition-setup s tx h.setup h.conversing h.store.pool.distinct sound) (on_addition-conversing s tx h.conversing sound)
       (on_addition-bounded s tx h.config h.conversing h.bounded sound) (on_addition-reports s h.setup h.bounded h.reports tx sound)
-
-  pub on_addition-node : (tx : List ℕ) → IsTrue (is_tx_length (length tx) && are_bytes tx) → IsNode (on_addition s tx).turn.state
-  on_addition-node tx sound = let parts = and_parts (is_tx_length (length tx)) (are_bytes tx) sound in on_addition-transaction_of tx (record { named = refl; sized = parts.0; bytes = parts.1 })
 
   pub on_start-node : IsNode (on_start s).turn.state
   on_start-node =
-      node_from (on_start s).turn (on_start-rows s (HasSameSide s) (side_rows s)) (on_start-store s h.store) (on_start-setup s h.setup h.conversing h.store.pool.distinct) (on_start-conversing s h.conversing) (on_start-bounded s h.config h.conversing h.bounded)
+      node_from (on_start s).turn (on_start-later s) (on_start-rows s (λ t. t.state.inbox ≡ s.inbox) (inbox_rows s)) (on_start-store s h.store) (on_start-setup s h.setup h.conversing h.store.pool.distinct) (on_start-conversing s h.conversing) (on_start-bounded s h.config h.conversing h.bounded)
       (on_start-reports s h.setup h.bounded h.reports)
 
   -- with another inbox, and ended or not
@@ -196,7 +189,7 @@ without_unread_by-sound None t h = h
 piece_node : (s : NodeState) (piece : List ℕ) → IsNode s → are_bytes piece ≡ true → IsNode (with_piece s piece)
 piece_node s piece h bytes =
     beside s h (record s.inbox { unread = s.inbox.unread ++ piece }) s.ended h.offset
-    (list_all-append (λ b. nat_lt b (2 ^ 8)) s.inbox.unread piece ∙ and_from (are_bytes s.inbox.unread) (are_bytes piece) h.unread bytes)
+    (bytes_join s.inbox.unread piece h.unread bytes)
 
 on_piece_by-sound : (e : Option End) (s : NodeState) (piece : List ℕ) → IsNode s → are_bytes piece ≡ true → IsSoundTurn (on_piece_by e s piece)
 unfolding on_piece_by

@@ -1,5 +1,3 @@
-pub mod Lists
-pub mod Ids
 pub mod Rooms
 pub mod Numbers
 pub mod Rows

@@ -1,10 +1,9 @@
 -- The reports of a node's rounds: each has ids of its pool, none twice, and short ids, none twice.
-use Rattle.std.proofs.Common.{◌≡◌, ℕ, zero, suc, ◌+◌, ◌%◌, ◌^◌, ◌<◌, ◌≤◌, ◌==◌, nat_eq, Bool, true, false, List, [], ◌∷◌, ◌++◌, length, Option, Some, None, if◌then◌else◌, refl, sym, ap, subst, ⊎_elim, arith, lit<, lit≤, mod-lt, ne_eqb, eqb-true}
+use Rattle.std.proofs.Common.{◌≡◌, ℕ, zero, suc, ◌+◌, ◌^◌, ◌≤◌, ◌==◌, nat_eq, Bool, true, false, List, [], ◌∷◌, ◌++◌, length, Option, Some, None, if◌then◌else◌, refl, sym, ap, subst, arith, lit≤}
 use Rattle.std.specs.List.{AllByRecursion, IsDistinct}
-use Rattle.std.proofs.lemmas.Bool.{or_cases, or_parts}
+use Rattle.std.proofs.lemmas.Bool.{or_parts}
 use Rattle.sketch_rules.specs.Answers.{IsAscending}
 use Rattle.id_rules.specs.Ids.{KeyPair}
-use Rattle.id_rules.specs.SipHash.{sip24}
 use Rattle.wire_rules.specs.Limits.{IsMessage}
 use Rattle.wire_rules.specs.declared.message.Message.{Message}
 use Rattle.pool_rules.specs.Pools.{Transaction, IsTransaction, transaction_of, is_in_pool}
@@ -14,6 +13,8 @@ use Rattle.pool_rules.specs.declared.report.Ending.{Ending}
 use Rattle.pool_rules.specs.declared.report.Ending.TheVariants as ending
 use Rattle.pool_rules.specs.declared.report.Report.{Report}
 use Rattle.pool_laws.proofs.Ids.{short_id-nonzero, short_id-small}
+use Rattle.pool_laws.proofs.PoolIds.{in_pool_more}
+use Rattle.id_rules.proofs.Lists.{all_append, all_filter, all_weaker}
 use Rattle.node_rules.specs.Accepter.{ask_fault, failure_fault, diff_fault, ending_of}
 use Rattle.node_rules.specs.Additions.{on_addition}
 use Rattle.node_rules.specs.Invariant.{IsReport, IsShort, IsMember, AreMembers, IsSetUp, IsBounded}
@@ -25,8 +26,7 @@ use Rattle.node_rules.specs.Steps.{on_message, on_start}
 use Rattle.node_rules.specs.declared.end.End.{End}
 use Rattle.node_rules.specs.declared.end.End.TheVariants as end
 use Rattle.node_invariants.proofs.Bounds.{round_after_sketch-is, answer-is, sketched-round}
-use Rattle.node_invariants.proofs.Ids.{in_pool_more}
-use Rattle.node_invariants.proofs.Lists.{all_append, all_filter, all_weaker}
+use Rattle.node_invariants.proofs.Numbers.{is_in_each, rising_once}
 use Rattle.node_invariants.proofs.Rows.{EachRow, IsAwaitingSketch, on_message-rows, on_addition-rows, on_start-rows}
 use Rattle.node_invariants.proofs.Sets.{pooled_ids}
 
@@ -40,17 +40,6 @@ record AreShort (ns : List ℕ) : Type 0 where
 none_short : AreShort []
 unfolding IsDistinct
 none_short = record { once = tt; each = tt }
-
--- numbers that rise from above another one
-rising_apart : (n low high : ℕ) (es : List ℕ) → n < low → IsAscending low high es → AllByRecursion (λ e. nat_eq n e ≡ false) es
-unfolding IsAscending
-rising_apart n low high [] lt h = tt
-rising_apart n low high (e ∷ es) lt h = let le = h.0 in (ne_eqb n e (λ same. absurd (omega (arith, same, le, lt))), rising_apart n (e + 1) high es (omega (arith, le, lt)) h.2)
-
-rising_once : (low high : ℕ) (es : List ℕ) → IsAscending low high es → IsDistinct nat_eq es
-unfolding IsAscending IsDistinct
-rising_once low high [] h = tt
-rising_once low high (e ∷ es) h = (rising_apart e (e + 1) high es (omega arith) h.2, rising_once (e + 1) high es h.2)
 
 rising_each : (low : ℕ) (es : List ℕ) → 1 ≤ low → IsAscending low (2 ^ 32) es → AllByRecursion IsShort es
 unfolding IsAscending
@@ -72,10 +61,6 @@ shorts_each (m ∷ ms) h = (h.0, shorts_each ms h.1)
 
 sketched_each : (keys : KeyPair) (pool : List Transaction) (snapshot : List Member) → AllByRecursion (IsMember keys pool) snapshot → AllByRecursion IsShort (sketched_shorts snapshot)
 sketched_each keys pool snapshot h = shorts_each (sketched_members snapshot) (all_filter (λ m. IsShort m.short) (λ m. is_single snapshot m.short) snapshot (all_weaker (IsMember keys pool) (λ m. IsShort m.short) (member_short keys pool) snapshot h))
-
-is_in_each : (P : ℕ → Type 0) (ns : List ℕ) (n : ℕ) → AllByRecursion P ns → is_in ns n ≡ true → P n
-is_in_each P [] n h e = absurd (let apart : false ≡ true = e in cc)
-is_in_each P (x ∷ xs) n h e = ⊎_elim (λ here. subst P (eqb-true x n here) h.0) (λ later. is_in_each P xs n h.1 later) (or_cases (x == n) (is_in xs n) e)
 
 -- ---- asks without a fault
 

@@ -14,8 +14,10 @@ use Rattle.wire_rules.specs.Limits.{IsMessage, is_within_limits, is_in_range, is
 use Rattle.wire_rules.specs.declared.limits.TheConstants.{LIST_LIMIT}
 use Rattle.wire_rules.specs.declared.message.InvEntry.{InvEntry}
 use Rattle.wire_rules.specs.declared.message.Message.TheVariants as message
-use Rattle.pool_rules.specs.Pools.{Transaction, IsTransaction, is_listed, without_id, bytes_of_id}
+use Rattle.pool_rules.specs.Pools.{Transaction, IsTransaction, is_same_id, is_listed, without_id, bytes_of_id}
 use Rattle.pool_rules.specs.Snapshots.{Member, ids_of}
+use Rattle.pool_laws.proofs.PoolIds.{first_or_later}
+use Rattle.id_rules.proofs.Lists.{all_append, filter_few}
 use Rattle.node_rules.specs.Handshake.{introduction, opening, own_version, reply}
 use Rattle.node_rules.specs.Invariant.{IsConfig}
 use Rattle.node_rules.specs.Inventory.{Serving, wtxids_of, is_tx_entry, new_ids, serving_by, serving_after_entry, serving_after}
@@ -24,10 +26,7 @@ use Rattle.node_rules.specs.declared.config.Config.{Config}
 use Rattle.node_rules.specs.declared.config.Role.{Role}
 use Rattle.node_rules.specs.declared.config.Role.TheVariants as role
 use Rattle.node_invariants.proofs.Fitting.{IsAnnounceable, ids_fit}
-use Rattle.node_invariants.proofs.Ids.{first_or_later}
-use Rattle.node_invariants.proofs.Lists.{all_append, filter_few}
 use Rattle.node_invariants.proofs.Numbers.{sums_bytes}
-use Rattle.node_invariants.proofs.Rooms.{without_few}
 use Rattle.node_invariants.proofs.Stores.{IsId}
 
 -- ---- the handshake
@@ -84,11 +83,10 @@ unfolding new_ids
 news_few known [] = omega arith
 news_few known (x ∷ xs) =
     cond_both (known x) (new_ids known xs) (x ∷ without_id (new_ids known xs) x) (λ zs. length zs ≤ length (x ∷ xs)) (λ e. let le = news_few known xs in omega arith)
-    (λ e. let le = news_few known xs in let few = without_few (new_ids known xs) x in omega arith)
+    (λ e. let le = news_few known xs in let few = filter_few (λ other. not (is_same_id other x)) (new_ids known xs) in omega arith)
 
 pub announced_few : (es : List InvEntry) → length (wtxids_of es) ≤ length es
-announced_few [] = omega arith
-announced_few (e ∷ es) = cond_both (is_tx_entry e) (e ∷ filter is_tx_entry es) (filter is_tx_entry es) (λ zs. length (map (λ x. x.id) zs) ≤ length (e ∷ es)) (λ k. let le = announced_few es in omega arith) (λ k. let le = announced_few es in omega arith)
+announced_few es = let few = filter_few is_tx_entry es in let same = length-map (filter is_tx_entry es) (λ e. e.id) in omega (arith, few, same)
 
 -- ---- pings, and the messages of a round
 

@@ -12,6 +12,8 @@ use Rattle.wire_rules.specs.declared.message.Message.{Message}
 use Rattle.wire_rules.specs.declared.message.Message.TheVariants as message
 use Rattle.pool_rules.specs.Pools.{Transaction, IsTransaction, transaction_of, pool_ids}
 use Rattle.pool_rules.specs.Snapshots.{sketched_shorts, snapshot_sketch, snapshot_sums, is_single}
+use Rattle.id_rules.proofs.Lists.{all_append, all_left}
+use Rattle.pool_laws.proofs.Ids.{wtxid-bytes}
 use Rattle.node_rules.specs.Accepter.{round_of_request, first_sketch, extension_sketch, accepter_announcement}
 use Rattle.node_rules.specs.Additions.{on_addition}
 use Rattle.node_rules.specs.Handshake.{opening_messages}
@@ -27,8 +29,6 @@ use Rattle.node_rules.specs.declared.config.Config.{Config}
 use Rattle.node_rules.specs.declared.config.Role.{Role}
 use Rattle.node_invariants.proofs.Bounds.{answer-is, round_after_sketch-is, sketched-round}
 use Rattle.node_invariants.proofs.Fitting.{IsAnnounceable, members_announce, part_announces, pool_fits}
-use Rattle.node_invariants.proofs.Lists.{all_append, all_left}
-use Rattle.node_invariants.proofs.Numbers.{wtxid_bytes}
 use Rattle.node_invariants.proofs.Rooms.{lack_all, lack_append}
 use Rattle.node_invariants.proofs.Rows.{EachRow, IsAwaitingSketch, IsNews, on_message-rows, on_addition-rows, on_start-rows}
 use Rattle.node_invariants.proofs.Sendable.{reply_sent, opening_sent, sent_inv, sent_getdata, sent_notfound, news_few, announced_few, sent_ping, sent_pong, sent_request, sent_extension, sent_sketch, sent_failure, merged_few, sent_asks, sent_ids, sent_end, serves_sent}
@@ -122,7 +122,7 @@ module _ (s : NodeState) (h : IsNode s) where
   plain_out = sent_inv (pool_ids s.pool) (let long = length-map s.pool (λ t. t.id) in let le = h.store.pool.count in omega (arith, long, le)) (pool_fits s.pool h.store.pool.each)
 
   addition_out : (t : Transaction) → IsTransaction t → AllByRecursion IsMessage (inv_of (t.id ∷ []))
-  addition_out t sound = sent_inv (t.id ∷ []) (lit≤ tt) (subst IsId (sym sound.named) (wtxid_bytes t.bytes), tt)
+  addition_out t sound = sent_inv (t.id ∷ []) (lit≤ tt) (subst IsId (sym sound.named) (wtxid-bytes t.bytes), tt)
 
   -- ---- the steps
 

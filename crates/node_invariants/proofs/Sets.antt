@@ -11,6 +11,9 @@ use Rattle.wire_rules.specs.declared.message.InvEntry.{InvEntry}
 use Rattle.wire_rules.specs.declared.message.Message.{Message}
 use Rattle.pool_rules.specs.Pools.{Transaction, IsTransaction, transaction_of, is_same_id, is_listed, without_id, is_in_pool, AreDistinctIds, pool_ids}
 use Rattle.pool_rules.specs.Snapshots.{Member, member_of, members, ids_of}
+use Rattle.pool_laws.proofs.IdLists.{both_false, distinct_both, distinct_filter, listed_all, listed_append, one_alone, is_same_id-self, unlisted, unlisted_filter}
+use Rattle.pool_laws.proofs.PoolIds.{in_own_pool, in_pool_append, in_pool_more}
+use Rattle.id_rules.proofs.Lists.{all_append, all_filter, all_weaker, filter_passed}
 use Rattle.node_rules.specs.Additions.{on_addition, with_pooled, with_member}
 use Rattle.node_rules.specs.Barrier.{with_wants_requested}
 use Rattle.node_rules.specs.Handshake.{level_of, after_handshake, with_peer}
@@ -21,10 +24,8 @@ use Rattle.node_rules.specs.State.{NodeState, Offer, node_keys, open_wants, open
 use Rattle.node_rules.specs.Steps.{on_message, on_start}
 use Rattle.node_rules.specs.Turns.{after_move}
 use Rattle.node_rules.specs.declared.config.Config.{Config}
+use Rattle.node_laws.proofs.NewIds.{new_kept}
 use Rattle.node_invariants.proofs.Early.{greeted-early, early-wants, early-snapshot}
-use Rattle.node_invariants.proofs.Ids.{one_alone, same_self, both_false, listed_all, listed_append, in_own_pool, in_pool_append, in_pool_more, distinct_both, new_kept, unlisted}
-use Rattle.node_invariants.proofs.Lists.{all_append, all_filter, all_weaker, filter_passed}
-use Rattle.node_invariants.proofs.Rooms.{distinct_filter, unlisted_filter}
 use Rattle.node_invariants.proofs.Rows.{EachRow, on_message-rows, on_addition-rows, on_start-rows}
 
 -- ---- members
@@ -66,7 +67,7 @@ push_members keys pool t ms absent h = record {
   once =
       subst AreDistinctIds (sym (map-append (λ m. m.id) ms (member_of keys t.id ∷ [])))
       (distinct_both (ids_of ms) (t.id ∷ []) h.once (one_alone t.id) (absent_unlisted keys pool ms t.id absent h, tt));
-  each = all_append (IsMember keys (pool ++ t ∷ [])) ms (member_of keys t.id ∷ []) (more_members keys pool (t ∷ []) ms h).each (record { pooled = in_pool_append pool (t ∷ []) t.id ∙ or_right (is_in_pool pool t.id) (is_in_pool (t ∷ []) t.id) (or_left (is_same_id t.id t.id) false (same_self t.id)); short = refl }, tt);
+  each = all_append (IsMember keys (pool ++ t ∷ [])) ms (member_of keys t.id ∷ []) (more_members keys pool (t ∷ []) ms h).each (record { pooled = in_pool_append pool (t ∷ []) t.id ∙ or_right (is_in_pool pool t.id) (is_in_pool (t ∷ []) t.id) (or_left (is_same_id t.id t.id) false (is_same_id-self t.id)); short = refl }, tt);
 }
 
 -- all of a pool

@@ -1,28 +1,30 @@
 -- A node's pool and wants stay within their limits, and each transaction is served once.
 use Rattle.std.proofs.Common.{◌≡◌, ℕ, ◌+◌, ◌&&◌, ◌||◌, not, nat_lt, nat_le, length, Bool, true, false, List, [], ◌∷◌, ◌++◌, map, filter, ltb-false, ◌≤◌, ◌^◌, arith, Option, Some, None, refl, sym, ap, ap₂, ◌∙◌, subst, append_assoc}
 use Rattle.std.specs.List.{AllByRecursion, list_all}
-use Rattle.std.proofs.lemmas.Bool.{or_left, or_right, or_parts, not-true, both_ways, false_from_ne_true, and_parts, cond_both, leb-true, leb-false}
+use Rattle.std.proofs.lemmas.Bool.{or_left, or_right, or_parts, not-true, both_ways, false_from_ne_true, and_parts, cond_both, leb-false}
 use Rattle.std.proofs.lemmas.List.{length-append}
-use Rattle.std.proofs.lemmas.List.Sums.{sum_by_push}
 use Rattle.base_types.specs.declared.lists.Hash32.{Hash32}
-use Rattle.id_rules.specs.Bytes.{are_bytes_of}
+use Rattle.id_rules.specs.Bytes.{are_bytes_of, is_id}
 use Rattle.wire_rules.specs.Limits.{IsMessage, is_in_range, is_entry}
 use Rattle.wire_rules.specs.declared.message.InvEntry.{InvEntry}
 use Rattle.wire_rules.specs.declared.message.Message.{Message}
 use Rattle.wire_rules.specs.declared.message.Message.TheVariants as message
-use Rattle.pool_rules.specs.Pools.{Transaction, IsTransaction, IsPool, transaction_of, is_same_id, is_listed, without_id, AreDistinctIds, is_in_pool, bytes_of_id, has_byte_room, byte_count, pool_ids}
-use Rattle.pool_rules.specs.declared.limits.TheConstants.{POOL_LIMIT, POOL_BYTES}
+use Rattle.pool_rules.specs.Pools.{Transaction, IsTransaction, IsPool, transaction_of, is_same_id, is_listed, without_id, AreDistinctIds, is_in_pool, bytes_of_id, has_byte_room}
+use Rattle.pool_rules.specs.declared.limits.TheConstants.{POOL_LIMIT}
+use Rattle.pool_laws.proofs.Insertions.{pool-grown}
+use Rattle.pool_laws.proofs.PoolIds.{first_or_later, in_pool_append, in_pool_more}
+use Rattle.pool_laws.proofs.IdLists.{all_listed, both_false, distinct_apart, distinct_both, distinct_fewer_left, distinct_fewer_right, distinct_swap, gone, listed_all, listed_append, one_alone, is_same_id-equal}
+use Rattle.id_rules.proofs.Lists.{all_append, all_filter, all_left, all_right, all_weaker, filter_few}
 use Rattle.node_rules.specs.Additions.{on_addition, with_pooled}
 use Rattle.node_rules.specs.Barrier.{with_wants_requested}
-use Rattle.node_rules.specs.Invariant.{IsStore, IsServing, is_id}
+use Rattle.node_rules.specs.Invariant.{IsStore, IsServing}
 use Rattle.node_rules.specs.Inventory.{is_tx_entry, wtxids_of, is_known, unknown_ids, without_announced, with_wanted, with_asked, with_requests, Serving, serving_by, serving_after_entry, serving_after, serving_of, on_getdata}
 use Rattle.node_rules.specs.State.{NodeState, Wants, opening_state, open_wants, taken_room}
 use Rattle.node_rules.specs.Steps.{on_message, on_start}
 use Rattle.node_rules.specs.declared.config.Config.{Config}
 use Rattle.node_rules.specs.declared.config.Role.{Role}
-use Rattle.node_invariants.proofs.Ids.{first_or_later, one_alone, same_is, both_false, all_listed, listed_all, listed_append, in_pool_append, in_pool_more, pool_ids_append, distinct_apart, distinct_both, new_unknown, new_kept}
-use Rattle.node_invariants.proofs.Lists.{all_append, all_filter, all_left, all_right, all_weaker}
-use Rattle.node_invariants.proofs.Rooms.{lack, lack_append, lack_le, lack_grow, lack_filter, lack_taken, distinct_fewer_left, distinct_fewer_right, distinct_swap, new_distinct, gone, pool_listed}
+use Rattle.node_laws.proofs.NewIds.{new_distinct, new_kept, new_unknown}
+use Rattle.node_invariants.proofs.Rooms.{lack, lack_append, lack_grow, lack_filter, lack_taken}
 use Rattle.node_invariants.proofs.Rows.{EachRow, IsAddable, IsNews, on_message-rows, on_addition-rows, on_start-rows}
 
 abbrev pub IsId : Hash32 → Type 0
@@ -121,7 +123,7 @@ module _ (s : NodeState) (store : IsStore s) where
         fresh fresh_apart)))
 
     room_with : (l : ℕ) → l ≡ lack s.pool (open_wants s) + lack s.pool fresh → nat_lt POOL_LIMIT (taken_room s + length fresh) ≡ false → length s.pool + l ≤ POOL_LIMIT
-    room_with l more fits = let le = ltb-false POOL_LIMIT (taken_room s + length fresh) fits in let few = lack_le s.pool fresh in omega (arith, le, few, more)
+    room_with l more fits = let le = ltb-false POOL_LIMIT (taken_room s + length fresh) fits in let few = filter_few (λ id. not (is_in_pool s.pool id)) fresh in omega (arith, le, few, more)
 
     wants_store : (r : Role) → IsNews r s es → IsStore (with_wanted s (without_announced s.set es) (s.wants.wanted ++ fresh))
     wants_store r h =
@@ -165,14 +167,11 @@ module _ (s : NodeState) (store : IsStore s) where
     abbrev grown : List Transaction
     grown = s.pool ++ t ∷ []
 
-    grown_distinct : AreDistinctIds (pool_ids grown)
-    grown_distinct = subst AreDistinctIds (sym (pool_ids_append s.pool (t ∷ []))) (distinct_both (pool_ids s.pool) (t.id ∷ []) store.pool.distinct (one_alone t.id) (sym (pool_listed s.pool t.id) ∙ absent, tt))
-
-    grown_bytes : byte_count grown ≤ POOL_BYTES
-    grown_bytes = let sum = sum_by_push (λ x. length x.bytes) s.pool t in let le = leb-true (byte_count s.pool + length t.bytes) POOL_BYTES fits in omega (arith, sum, le)
+    length_grown : length grown ≡ length s.pool + 1
+    length_grown = length-append s.pool (t ∷ [])
 
     grown_pool : length grown ≤ POOL_LIMIT → IsPool grown
-    grown_pool few = record { distinct = grown_distinct; each = all_append IsTransaction s.pool (t ∷ []) store.pool.each (sound, tt); count = few; size = grown_bytes }
+    grown_pool few = pool-grown s.pool t store.pool sound absent (let long = length_grown in omega (arith, few, long)) fits
 
     -- the pool with it, and other wants
     grown_store : (u : NodeState) → u.pool ≡ grown → u.wants.served ≡ s.wants.served → AreDistinctIds (open_wants u) → AllByRecursion (IsOut grown) u.wants.wanted → lack grown (open_wants u) + length grown ≤ POOL_LIMIT → AllByRecursion IsId (open_wants u) → IsStore u
@@ -190,10 +189,7 @@ module _ (s : NodeState) (store : IsStore s) where
         listed_all (IsOut grown) ids
         (λ id h. ap not (in_pool_append s.pool (t ∷ []) id
         ∙ both_false (is_in_pool s.pool id) (is_in_pool (t ∷ []) id) (not-true (is_in_pool s.pool id) (all_listed (IsOut s.pool) ids out id h))
-        (both_false (is_same_id t.id id) false (false_from_ne_true (is_same_id t.id id) (λ same. both_ways (is_listed ids t.id) other (subst (λ x. is_listed ids x ≡ true) (sym (same_is t.id id same)) h))) refl)))
-
-    length_grown : length grown ≡ length s.pool + 1
-    length_grown = length-append s.pool (t ∷ [])
+        (both_false (is_same_id t.id id) false (false_from_ne_true (is_same_id t.id id) (λ same. both_ways (is_listed ids t.id) other (subst (λ x. is_listed ids x ≡ true) (sym (is_same_id-equal t.id id same)) h))) refl)))
 
     gained_store : is_listed s.wants.asked t.id ≡ true → IsStore (with_requests (record s { pool = grown }) (without_id s.wants.asked t.id))
     gained_store asked =

@@ -2,16 +2,16 @@
 //! are in `proofs/`; each theorem is stated by a function.
 #![tactic(auto)]
 
-ghost use Rattle.std.specs.Prelude.{ℕ, ◌≤◌, ◌&&◌, IsTrue, List, length};
+ghost use Rattle.std.specs.Prelude.{ℕ, ◌≤◌, IsTrue, List, length};
 ghost use Rattle.std.specs.List.{AllByRecursion};
-ghost use Rattle.id_rules.specs.Bytes.{are_bytes, is_tx_length};
+ghost use Rattle.id_rules.specs.Bytes.{are_bytes, is_tx};
 ghost use Rattle.wire_rules.specs.Limits.{IsMessage};
 ghost use Rattle.wire_rules.specs.declared.message.Message.{Message};
-ghost use Rattle.pool_rules.specs.Pools.{Transaction, IsTransaction, IsPool, transaction_of};
+ghost use Rattle.pool_rules.specs.Pools.{Transaction, IsPool};
 ghost use Rattle.pool_rules.specs.declared.limits.TheConstants.{POOL_LIMIT};
 ghost use Rattle.node_rules.specs.Additions.{on_addition};
 ghost use Rattle.node_rules.specs.Handshake.{opening_messages};
-ghost use Rattle.node_rules.specs.Invariant.{IsConfig, IsStore, IsSetUp, IsConversing, IsBounded, IsNode};
+ghost use Rattle.node_rules.specs.Invariant.{IsConfig, IsStore, IsConversing, IsNode};
 ghost use Rattle.node_rules.specs.State.{NodeState, opening_state};
 ghost use Rattle.node_rules.specs.Steps.{on_message, on_messages, on_piece, on_start};
 ghost use Rattle.node_rules.specs.declared.config.Config.{Config};
@@ -22,27 +22,8 @@ ghost use Rattle.node_rules.specs.declared.config.Config.{Config};
 pub fn stores_are_kept()
     ensures opening { (c : Config) (pool : List Transaction) → IsPool pool → IsStore (opening_state c pool) }
     ensures by_message { (s : NodeState) (m : Message) → IsStore s → IsMessage m → IsStore (on_message s m).state }
-    ensures by_addition { (s : NodeState) (tx : List ℕ) → IsStore s → IsTransaction (transaction_of tx) → IsStore (on_addition s tx).turn.state }
+    ensures by_addition { (s : NodeState) (tx : List ℕ) → IsStore s → IsTrue (is_tx tx) → IsStore (on_addition s tx).turn.state }
     ensures by_round { (s : NodeState) → IsStore s → IsStore (on_start s).turn.state }
-{}
-
-/// Behind each step of a node its set and its snapshot have members of its pool alone, each once and under the key of both
-/// salts, they have none in common, and the set has none that the peer is known to have. It does nothing when it runs: its
-/// contract is the theorem.
-pub fn sets_are_kept()
-    ensures opening { (c : Config) (pool : List Transaction) → IsSetUp (opening_state c pool) }
-    ensures by_message { (s : NodeState) (m : Message) → IsNode s → IsMessage m → IsSetUp (on_message s m).state }
-    ensures by_addition { (s : NodeState) (tx : List ℕ) → IsNode s → IsTransaction (transaction_of tx) → IsSetUp (on_addition s tx).turn.state }
-    ensures by_round { (s : NodeState) → IsNode s → IsSetUp (on_start s).turn.state }
-{}
-
-/// Behind each step of a node the numbers of its machine are within their limits, and so is the round that it keeps. It does
-/// nothing when it runs: its contract is the theorem.
-pub fn numbers_are_kept()
-    ensures opening { (c : Config) (pool : List Transaction) → IsBounded (opening_state c pool).machine (opening_state c pool).requests }
-    ensures by_message { (s : NodeState) (m : Message) → IsNode s → IsMessage m → IsBounded (on_message s m).state.machine (on_message s m).state.requests }
-    ensures by_addition { (s : NodeState) (tx : List ℕ) → IsNode s → IsTransaction (transaction_of tx) → IsBounded (on_addition s tx).turn.state.machine (on_addition s tx).turn.state.requests }
-    ensures by_round { (s : NodeState) → IsNode s → IsBounded (on_start s).turn.state.machine (on_start s).turn.state.requests }
 {}
 
 /// Each message that a node sends may be sent: what a new one has to send, and what it sends in a step. It does nothing when
@@ -50,7 +31,7 @@ pub fn numbers_are_kept()
 pub fn what_is_sent_may_be_sent()
     ensures opening { (c : Config) → IsConfig c → AllByRecursion IsMessage (opening_messages c) }
     ensures by_message { (s : NodeState) (m : Message) → IsNode s → IsMessage m → AllByRecursion IsMessage (on_message s m).out }
-    ensures by_addition { (s : NodeState) (tx : List ℕ) → IsNode s → IsTransaction (transaction_of tx) → AllByRecursion IsMessage (on_addition s tx).turn.out }
+    ensures by_addition { (s : NodeState) (tx : List ℕ) → IsNode s → IsTrue (is_tx tx) → AllByRecursion IsMessage (on_addition s tx).turn.out }
     ensures by_round { (s : NodeState) → IsNode s → AllByRecursion IsMessage (on_start s).turn.out }
 {}
 
@@ -66,7 +47,7 @@ pub fn sets_fit_the_pool()
 pub fn conversations_are_kept()
     ensures opening { (c : Config) (pool : List Transaction) → IsConversing (opening_state c pool) }
     ensures by_message { (s : NodeState) (m : Message) → IsConversing s → IsMessage m → IsConversing (on_message s m).state }
-    ensures by_addition { (s : NodeState) (tx : List ℕ) → IsConversing s → IsTransaction (transaction_of tx) → IsConversing (on_addition s tx).turn.state }
+    ensures by_addition { (s : NodeState) (tx : List ℕ) → IsConversing s → IsTrue (is_tx tx) → IsConversing (on_addition s tx).turn.state }
     ensures by_round { (s : NodeState) → IsConversing s → IsConversing (on_start s).turn.state }
 {}
 
@@ -82,7 +63,7 @@ pub fn nodes_stay_nodes()
     ensures by_message { (s : NodeState) (m : Message) → IsNode s → IsMessage m → IsNode (on_message s m).state }
     ensures by_messages { (s : NodeState) (ms : List Message) → IsNode s → AllByRecursion IsMessage ms → IsNode (on_messages s ms).state }
     ensures by_piece { (s : NodeState) (piece : List ℕ) → IsNode s → IsTrue (are_bytes piece) → IsNode (on_piece s piece).state }
-    ensures by_addition { (s : NodeState) (tx : List ℕ) → IsNode s → IsTrue (is_tx_length (length tx) && are_bytes tx) → IsNode (on_addition s tx).turn.state }
+    ensures by_addition { (s : NodeState) (tx : List ℕ) → IsNode s → IsTrue (is_tx tx) → IsNode (on_addition s tx).turn.state }
     ensures by_round { (s : NodeState) → IsNode s → IsNode (on_start s).turn.state }
 {}
 

@@ -1,45 +1,36 @@
--- New ids are found from the left as well: what was new before is known to those behind it.
-use Rattle.std.proofs.Common.{◌≡◌, ◌||◌, Bool, true, false, not, List, [], ◌∷◌, filter, cond, if◌then◌else◌, refl, sym, ap, ◌∙◌}
-use Rattle.std.proofs.lemmas.Slice.Eq.{bytes_eq-Decides}
+-- The ids of an announcement that are new: they are unknown, none stands twice, and they may be found from the left as well,
+-- where what was new before is known to those behind it.
+use Rattle.std.proofs.Common.{◌≡◌, ◌||◌, Bool, true, false, not, List, [], ◌∷◌, if◌then◌else◌, refl, sym, ap, ◌∙◌}
+use Rattle.std.specs.List.{AllByRecursion}
+use Rattle.std.proofs.lemmas.Bool.{cond_both}
 use Rattle.base_types.specs.declared.lists.Hash32.{Hash32}
-use Rattle.pool_rules.specs.Pools.{is_same_id, without_id}
+use Rattle.pool_rules.specs.Pools.{is_same_id, without_id, AreDistinctIds}
+use Rattle.pool_laws.proofs.IdLists.{is_same_id-equal, distinct_filter, gone}
+use Rattle.id_rules.proofs.Lists.{all_filter, filter_yes, filter_no, filter_swap, filter_twice}
 use Rattle.node_rules.specs.Inventory.{new_ids}
 
-same_one : (a b : Hash32) → is_same_id a b ≡ true → a ≡ b
-same_one a b h = ap (λ bytes. record { 0 = bytes }) ((bytes_eq-Decides a.0 b.0).0 h)
+-- a list without an id
+without_kept : (P : Hash32 → Type 0) (ids : List Hash32) (id : Hash32) → AllByRecursion P ids → AllByRecursion P (without_id ids id)
+without_kept P ids id h = all_filter P (λ other. not (is_same_id other id)) ids h
 
-module _ {A : Type 0} (p : A → Bool) where
-  filter_yes : (x : A) (xs : List A) → p x ≡ true → filter p (x ∷ xs) ≡ x ∷ filter p xs
-  filter_yes x xs h = ap (λ b. cond b (x ∷ filter p xs) (filter p xs)) h
+pub new_unknown : (known : Hash32 → Bool) (ids : List Hash32) → AllByRecursion (λ id. known id ≡ false) (new_ids known ids)
+unfolding new_ids
+new_unknown known [] = tt
+new_unknown known (x ∷ xs) =
+    cond_both (known x) (new_ids known xs) (x ∷ without_id (new_ids known xs) x) (AllByRecursion (λ id. known id ≡ false)) (λ e. new_unknown known xs) (λ e. (e, without_kept (λ id. known id ≡ false) (new_ids known xs) x (new_unknown known xs)))
 
-  filter_no : (x : A) (xs : List A) → p x ≡ false → filter p (x ∷ xs) ≡ filter p xs
-  filter_no x xs h = ap (λ b. cond b (x ∷ filter p xs) (filter p xs)) h
+pub new_kept : (P : Hash32 → Type 0) (known : Hash32 → Bool) (ids : List Hash32) → AllByRecursion P ids → AllByRecursion P (new_ids known ids)
+unfolding new_ids
+new_kept P known [] h = tt
+new_kept P known (x ∷ xs) h =
+    cond_both (known x) (new_ids known xs) (x ∷ without_id (new_ids known xs) x) (AllByRecursion P) (λ e. new_kept P known xs h.1) (λ e. (h.0, without_kept P (new_ids known xs) x (new_kept P known xs h.1)))
 
-module _ {A : Type 0} (p q : A → Bool) where
-  both_filters : (a b : Bool) (x : A) (xs : List A) → p x ≡ a → q x ≡ b → filter p (filter q xs) ≡ filter q (filter p xs)
-      → filter p (filter q (x ∷ xs)) ≡ filter q (filter p (x ∷ xs))
-  both_filters true true x xs ea eb e =
-      ap (filter p) (filter_yes q x xs eb) ∙ (filter_yes p x (filter q xs) ea ∙ (ap (λ ys. x ∷ ys) e ∙ sym (ap (filter q) (filter_yes p x xs ea) ∙ filter_yes q x (filter p xs) eb)))
-  both_filters true false x xs ea eb e =
-      ap (filter p) (filter_no q x xs eb) ∙ (e ∙ sym (ap (filter q) (filter_yes p x xs ea) ∙ filter_no q x (filter p xs) eb))
-  both_filters false true x xs ea eb e =
-      ap (filter p) (filter_yes q x xs eb) ∙ (filter_no p x (filter q xs) ea ∙ (e ∙ sym (ap (filter q) (filter_no p x xs ea))))
-  both_filters false false x xs ea eb e = ap (filter p) (filter_no q x xs eb) ∙ (e ∙ sym (ap (filter q) (filter_no p x xs ea)))
-
-  -- two filters in either order
-  filter_swap : (xs : List A) → filter p (filter q xs) ≡ filter q (filter p xs)
-  filter_swap [] = refl
-  filter_swap (x ∷ xs) = both_filters (p x) (q x) x xs refl refl (filter_swap xs)
-
-module _ {A : Type 0} (p : A → Bool) where
-  filter_same : (b : Bool) (x : A) (xs : List A) → p x ≡ b → filter p (filter p xs) ≡ filter p xs → filter p (filter p (x ∷ xs)) ≡ filter p (x ∷ xs)
-  filter_same true x xs h e = ap (filter p) (filter_yes p x xs h) ∙ (filter_yes p x (filter p xs) h ∙ (ap (λ ys. x ∷ ys) e ∙ sym (filter_yes p x xs h)))
-  filter_same false x xs h e = ap (filter p) (filter_no p x xs h) ∙ (e ∙ sym (filter_no p x xs h))
-
-  -- one filter twice
-  filter_twice : (xs : List A) → filter p (filter p xs) ≡ filter p xs
-  filter_twice [] = refl
-  filter_twice (x ∷ xs) = filter_same (p x) x xs refl (filter_twice xs)
+pub new_distinct : (known : Hash32 → Bool) (ids : List Hash32) → AreDistinctIds (new_ids known ids)
+unfolding new_ids AreDistinctIds
+new_distinct known [] = tt
+new_distinct known (x ∷ xs) =
+    cond_both (known x) (new_ids known xs) (x ∷ without_id (new_ids known xs) x) AreDistinctIds (λ e. new_distinct known xs)
+    (λ e. (ap not (gone (new_ids known xs) x), distinct_filter (λ other. not (is_same_id other x)) (new_ids known xs) (new_distinct known xs)))
 
 module _ (known : Hash32 → Bool) (id : Hash32) where
   abbrev knows : Hash32 → Bool
@@ -54,7 +45,7 @@ module _ (known : Hash32 → Bool) (id : Hash32) where
   front_by false true x xs ek ee more =
       more
       ∙ (sym (filter_twice (λ other. not (is_same_id other id)) (old xs))
-      ∙ (ap (λ y. without_id (without_id (old xs) y) id) (sym (same_one x id ee))
+      ∙ (ap (λ y. without_id (without_id (old xs) y) id) (sym (is_same_id-equal x id ee))
       ∙ sym (filter_no (λ other. not (is_same_id other id)) x (without_id (old xs) x) (ap not ee))))
   front_by false false x xs ek ee more =
       ap (λ ys. x ∷ without_id ys x) more

@@ -3,8 +3,7 @@
 use Rattle.std.specs.Prelude.{◌≡◌, ℕ, zero, suc, ◌^◌, ◌<◌, ◌≤◌, nat_lt, not, nat_eq, is_none, Bool, true, false, IsTrue, List, [], length, Some, None}
 use Rattle.std.specs.List.{AllByRecursion, IsDistinct}
 use Rattle.std.specs.declared.option.Option.{Option}
-use Rattle.base_types.specs.declared.lists.Hash32.{Hash32}
-use Rattle.id_rules.specs.Bytes.{are_bytes, are_bytes_of, fits_signed}
+use Rattle.id_rules.specs.Bytes.{are_bytes, are_bytes_of, is_id, fits_signed}
 use Rattle.id_rules.specs.Ids.{KeyPair}
 use Rattle.wire_rules.specs.declared.phase.Phase.{Phase}
 use Rattle.wire_rules.specs.declared.phase.Phase.TheVariants as phase
@@ -29,10 +28,6 @@ pub record IsConfig (c : Config) : Type 0 where
   pub most : c.top ≤ 2
 
 -- ---- the pool, and what goes to it and from it
-
--- 32 bytes
-abbrev pub is_id : Hash32 → Bool
-is_id id = are_bytes_of 32 id.0
 
 -- no id is wanted or asked for twice, none that is wanted is in the pool, and there is room for all
 pub record IsWanting (s : NodeState) : Type 0 where

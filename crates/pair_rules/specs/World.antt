@@ -1,8 +1,8 @@
 -- Two nodes, the bytes on the wires between them, and what happens to them. The wires lose nothing and keep the order.
-use Rattle.std.specs.Prelude.{◌≡◌, ℕ, zero, suc, ◌+◌, ◌-◌, ◌^◌, ◌||◌, ◌&&◌, min, is_some, Bool, true, false, IsTrue, List, [], ◌∷◌, ◌++◌, length, take, drop}
+use Rattle.std.specs.Prelude.{◌≡◌, ℕ, zero, suc, ◌+◌, ◌-◌, ◌^◌, ◌||◌, min, is_some, Bool, true, false, IsTrue, List, [], ◌∷◌, ◌++◌, length, take, drop}
 use Rattle.std.specs.List.{list_all}
 use Rattle.std.specs.declared.option.Option.{Option}
-use Rattle.id_rules.specs.Bytes.{are_bytes, is_tx_length}
+use Rattle.id_rules.specs.Bytes.{is_tx}
 use Rattle.wire_rules.specs.Layout.{wire_bytes}
 use Rattle.wire_rules.specs.declared.message.Message.{Message}
 use Rattle.pool_rules.specs.Pools.{Transaction, IsPool}
@@ -119,10 +119,6 @@ pub record ArePair (c d : Config) (p q : List Transaction) : Type 0 where
   pub config_b : IsConfig d
   pub pool_a : IsPool p
   pub pool_b : IsPool q
-
--- whether what is added may be a transaction
-abbrev pub is_tx : List ℕ → Bool
-is_tx tx = is_tx_length (length tx) && are_bytes tx
 
 unfoldable pub is_event : Event → Bool
 is_event (event.AddA tx) = is_tx tx

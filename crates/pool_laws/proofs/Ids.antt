@@ -5,23 +5,23 @@ use Rattle.std.proofs.lemmas.Bool.{and_from, leb-true, leb-false}
 use Rattle.sha2.specs.Sha256.{sha256, digest_bytes, final_hash, initial_hash_256}
 use Rattle.sha2.proofs.Facts256.{length-sha256}
 use Rattle.base_types.specs.declared.lists.Hash32.{Hash32}
-use Rattle.id_rules.specs.Bytes.{are_bytes, are_bytes_of}
+use Rattle.id_rules.specs.Bytes.{are_bytes, is_id}
 use Rattle.id_rules.specs.Ids.{KeyPair, wtxid, salted_hash, key_in, keys_of, short_id}
-use Rattle.id_rules.proofs.Bytes.{are_bytes-append, are_bytes-high_first}
+use Rattle.id_rules.proofs.Bytes.{bytes_join, are_bytes-high_first}
 
--- ---- ids
+-- ---- an id
 
 are_bytes-digest : (h : List ℕ) (n : ℕ) → are_bytes (digest_bytes h n) ≡ true
 unfolding digest_bytes
 are_bytes-digest h zero = refl
-are_bytes-digest h (suc n) = are_bytes-append (digest_bytes h n) (to_be_bytes w32 (slice_index h n)) (are_bytes-digest h n) (are_bytes-high_first 4 (slice_index h n))
+are_bytes-digest h (suc n) = bytes_join (digest_bytes h n) (to_be_bytes w32 (slice_index h n)) (are_bytes-digest h n) (are_bytes-high_first 4 (slice_index h n))
 
 are_bytes-sha256 : (m : List ℕ) → are_bytes (sha256 m) ≡ true
 unfolding sha256
 are_bytes-sha256 m = are_bytes-digest (final_hash initial_hash_256 m) 8
 
 -- an id has 32 bytes
-pub wtxid-bytes : (tx : List ℕ) → are_bytes_of 32 (wtxid tx).0 ≡ true
+pub wtxid-bytes : (tx : List ℕ) → is_id (wtxid tx) ≡ true
 wtxid-bytes tx = and_from (length (sha256 (sha256 tx)) == 32) (are_bytes (sha256 (sha256 tx))) (eq-eqb (length (sha256 (sha256 tx))) 32 (length-sha256 (sha256 tx))) (are_bytes-sha256 (sha256 tx))
 
 -- ---- keys and short ids

@@ -1,3 +1,5 @@
+pub mod IdLists
+pub mod PoolIds
 pub mod Ids
 pub mod Capacity
 pub mod Insertions

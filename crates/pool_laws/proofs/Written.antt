@@ -6,7 +6,7 @@ use Rattle.std.specs.List.{All, AllByRecursion}
 use Rattle.std.proofs.Math.Seq.{take-append_seam, drop-append_seam, get_or-append_seam}
 use Rattle.std.proofs.lemmas.Bool.{and_from, and_parts, eqb-true, leb-true, ltb-true}
 use Rattle.std.proofs.lemmas.Fmt.{length-decimal-le}
-use Rattle.std.proofs.lemmas.List.{append-nil, map-append}
+use Rattle.std.proofs.lemmas.List.{append-nil}
 use Rattle.std.proofs.lemmas.List.Elements.{All-append}
 use Rattle.std.proofs.lemmas.List.Sums.{sum_by-append, sum_by-cons}
 use Rattle.hex.specs.Hex.{IsBytes, encode_lower, lower_digits}
@@ -25,7 +25,8 @@ use Rattle.pool_rules.specs.PoolFile.{has_form, transaction_line, heading, headi
 use Rattle.pool_rules.specs.Pools.{Transaction, AreDistinctIds, IsTransaction, IsPool, byte_count, has_byte_room, has_room, transaction_of, is_in_pool, pool_ids, is_same_id}
 use Rattle.pool_rules.specs.declared.limits.TheConstants.{POOL_LIMIT, POOL_BYTES, POOL_FILE_LIMIT}
 use Rattle.pool_laws.proofs.Ids.{wtxid-bytes}
-use Rattle.pool_laws.proofs.Insertions.{distinct-before, is_in_pool-is_listed, is_same_id-self}
+use Rattle.pool_laws.proofs.IdLists.{distinct_apart, is_same_id-self}
+use Rattle.pool_laws.proofs.PoolIds.{is_in_pool-is_listed, pool_ids_append}
 
 -- ---- bytes and their digits
 
@@ -147,7 +148,7 @@ numbered_lines-held_lines n (t ∷ ts) sound =
 -- a pool in two parts: of the second, the first transaction is new to the first part, which has room for it
 parted-new : (earlier : List Transaction) (t : Transaction) (ts : List Transaction) → IsPool (earlier ++ t ∷ ts) → is_in_pool earlier t.id ≡ false
 parted-new earlier t ts sound =
-    is_in_pool-is_listed earlier t.id ∙ distinct-before (pool_ids earlier) t.id (pool_ids ts) (subst AreDistinctIds (map-append (λ u. u.id) earlier (t ∷ ts)) sound.distinct)
+    is_in_pool-is_listed earlier t.id ∙ (distinct_apart (pool_ids earlier) (pool_ids (t ∷ ts)) (subst AreDistinctIds (pool_ids_append earlier (t ∷ ts)) sound.distinct)).0
 
 parted-room : (earlier : List Transaction) (t : Transaction) (ts : List Transaction) → IsPool (earlier ++ t ∷ ts) → has_room earlier t.bytes ≡ true
 parted-room earlier t ts sound =

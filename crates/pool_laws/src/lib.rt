@@ -3,11 +3,11 @@
 
 ghost use Rattle.std.specs.Prelude.{◌≡◌, ℕ, ◌^◌, ◌<◌, ◌≤◌, false, IsTrue, List, length, Ok};
 ghost use Rattle.base_types.specs.declared.lists.Hash32.{Hash32};
-ghost use Rattle.id_rules.specs.Bytes.{are_bytes_of};
+ghost use Rattle.id_rules.specs.Bytes.{is_id, is_tx};
 ghost use Rattle.id_rules.specs.Ids.{KeyPair, wtxid, keys_of, short_id};
 ghost use Rattle.pool_rules.specs.Capacity.{capacity, next_q, next_q_failed};
 ghost use Rattle.pool_rules.specs.PoolFile.{pool_text, pool_in};
-ghost use Rattle.pool_rules.specs.Pools.{Transaction, IsTransaction, IsPool, transaction_of, insertion_of};
+ghost use Rattle.pool_rules.specs.Pools.{Transaction, IsPool, insertion_of};
 ghost use Rattle.pool_rules.specs.declared.limits.TheConstants.{LEAST_CAPACITY, FIRST_LIMIT, POOL_FILE_LIMIT};
 ghost use Rattle.pool_laws.specs.Outcomes.{IsOutcome};
 
@@ -22,13 +22,13 @@ pub fn written_pools_are_read()
 /// A pool into which bytes are put that may be a transaction stays a pool, and the answer says what became of it and why.
 /// It does nothing when it runs: its contract is the theorem.
 pub fn insertions_keep_pools()
-    ensures kept { (pool : List Transaction) (tx : List ℕ) → IsPool pool → IsTransaction (transaction_of tx) → IsPool (insertion_of pool tx).pool }
+    ensures kept { (pool : List Transaction) (tx : List ℕ) → IsPool pool → IsTrue (is_tx tx) → IsPool (insertion_of pool tx).pool }
     ensures outcome { (pool : List Transaction) (tx : List ℕ) → IsOutcome (insertion_of pool tx).inserted pool tx (insertion_of pool tx).pool }
 {}
 
 /// An id has 32 bytes. It does nothing when it runs: its contract is the theorem.
 pub fn ids_have_32_bytes()
-    ensures { (tx : List ℕ) → IsTrue (are_bytes_of 32 (wtxid tx).0) }
+    ensures { (tx : List ℕ) → IsTrue (is_id (wtxid tx)) }
 {}
 
 /// Both nodes have one key, whichever salt is whose. It does nothing when it runs: its contract is the theorem.

@@ -1,9 +1,8 @@
 -- Fields of a line, with one space between, are read back.
 use Rattle.std.proofs.Common.{◌≡◌, ℕ, ◌==◌, Bool, true, false, not, List, [], ◌∷◌, ◌++◌, if◌then◌else◌, refl, sym, ap, ◌∙◌}
 use Rattle.std.specs.List.{AllByRecursion, join_with_byte, list_all}
-use Rattle.std.proofs.lemmas.Bool.{ne_eqb}
+use Rattle.std.proofs.lemmas.Bool.{ne_eqb, and_from, and_parts}
 use Rattle.wire_rules.specs.ShownReading.{fields_of, with_first_byte}
-use Rattle.wire_laws.proofs.Parts.{both_hold, both_so}
 
 -- no byte of a word is a space
 abbrev pub spaceless : List ℕ → Bool
@@ -22,7 +21,7 @@ another test b c h e = ne_eqb b c (λ same. apart (sym h ∙ (ap test same ∙ e
 -- so there is no space among bytes that pass a test of which a space doesn't
 pub no-space : (test : ℕ → Bool) → test 32 ≡ false → (word : List ℕ) → list_all test word ≡ true → spaceless word ≡ true
 no-space test none [] h = refl
-no-space test none (b ∷ word) h = let tests = both_hold (test b) (list_all test word) h in both_so (not (b == 32)) (spaceless word) (ap not (another test b 32 tests.0 none)) (no-space test none word tests.1)
+no-space test none (b ∷ word) h = let tests = and_parts (test b) (list_all test word) h in and_from (not (b == 32)) (spaceless word) (ap not (another test b 32 tests.0 none)) (no-space test none word tests.1)
 
 -- a byte that is no space stands in the first field
 byte_by : (space : Bool) (b : ℕ) (rest : List ℕ) → not space ≡ true → (if space then [] ∷ fields_of rest else with_first_byte b (fields_of rest)) ≡ with_first_byte b (fields_of rest)
@@ -34,7 +33,7 @@ fields-word : (word rest : List ℕ) → spaceless word ≡ true → fields_of (
 unfolding fields_of
 fields-word [] rest h = refl
 fields-word (b ∷ word) rest h =
-    let tests = both_hold (not (b == 32)) (spaceless word) h in
+    let tests = and_parts (not (b == 32)) (spaceless word) h in
     byte_by (b == 32) b (word ++ (32 ∷ rest)) tests.0 ∙ ap (with_first_byte b) (fields-word word rest tests.1)
 
 -- the last word
@@ -42,7 +41,7 @@ fields-last : (word : List ℕ) → spaceless word ≡ true → fields_of word �
 unfolding fields_of
 fields-last [] h = refl
 fields-last (b ∷ word) h =
-    let tests = both_hold (not (b == 32)) (spaceless word) h in
+    let tests = and_parts (not (b == 32)) (spaceless word) h in
     byte_by (b == 32) b word tests.0 ∙ ap (with_first_byte b) (fields-last word tests.1)
 
 pub fields-joined : (word : List ℕ) (words : List (List ℕ)) → AllByRecursion IsSpaceless (word ∷ words) → fields_of (join_with_byte 32 (word ∷ words)) ≡ word ∷ words

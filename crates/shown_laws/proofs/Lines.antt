@@ -3,7 +3,7 @@ use Rattle.std.proofs.Common.{◌≡◌, ℕ, ◌^◌, ◌==◌, ◌&&◌, Bool,
 use Rattle.std.specs.List.{AllByRecursion, join_with_byte, list_all}
 use Rattle.std.specs.Cmp.Lexicographic.{same_text}
 use Rattle.std.specs.Fmt.{decimal}
-use Rattle.std.proofs.lemmas.Bool.{eqb-true, leb-true, le-leb, ltb-true}
+use Rattle.std.proofs.lemmas.Bool.{eqb-true, leb-true, le-leb, ltb-true, and_from, and_parts}
 use Rattle.hex.specs.Hex.{encode_lower}
 use Rattle.line_rules.specs.Digits.{eight_digits}
 use Rattle.line_rules.specs.Numbers.{number_of}
@@ -19,7 +19,7 @@ use Rattle.wire_rules.specs.declared.message.Message.TheVariants as message
 use Rattle.wire_rules.specs.declared.message.VersionMsg.{VersionMsg}
 use Rattle.wire_rules.specs.declared.name.Name.{Name}
 use Rattle.wire_rules.specs.declared.name.Name.TheVariants as name
-use Rattle.wire_laws.proofs.Parts.{VersionRanges, both_hold, both_so, bytes_eq-self, version_ranges}
+use Rattle.wire_laws.proofs.Parts.{VersionRanges, bytes_eq-self, version_ranges}
 use Rattle.shown_laws.proofs.Fields.{IsSpaceless, fields-joined, spaceless}
 use Rattle.shown_laws.proofs.Words.{Reads, bytes-reads, each-said, each-spaces, entry-reads, flag-reads, number-reads, relay-reads, salt-reads, short-reads, signed-reads, some-bytes-reads, then_some}
 
@@ -80,8 +80,8 @@ version_said_back v ranges =
     let version = signed-reads 31 v.version (lit≤ tt) ranges.version in
     let services = number-reads v.services (ltb-true v.services (2 ^ 64) ranges.services) in
     let time = signed-reads 63 v.time (lit≤ tt) ranges.time in
-    let receiver = bytes-reads v.receiver (both_hold (length v.receiver == 26) (are_bytes v.receiver) ranges.receiver).1 in
-    let sender = bytes-reads v.sender (both_hold (length v.sender == 26) (are_bytes v.sender) ranges.sender).1 in
+    let receiver = bytes-reads v.receiver (and_parts (length v.receiver == 26) (are_bytes v.receiver) ranges.receiver).1 in
+    let sender = bytes-reads v.sender (and_parts (length v.sender == 26) (are_bytes v.sender) ranges.sender).1 in
     let nonce = number-reads v.nonce (ltb-true v.nonce (2 ^ 64) ranges.nonce) in
     let agent = bytes-reads v.agent ranges.agent in
     let height = signed-reads 31 v.height (lit≤ tt) ranges.height in
@@ -96,13 +96,13 @@ version_said_back v ranges =
 zeros : (xs : List ℕ) → list_all (λ c. c == 0) xs ≡ true → are_bytes xs ≡ true
 zeros [] h = refl
 zeros (x ∷ xs) h =
-    let tests = both_hold (x == 0) (list_all (λ c. c == 0) xs) h in
-    both_so (nat_lt x (2 ^ 8)) (are_bytes xs) (ap (λ n. nat_lt n (2 ^ 8)) (eqb-true x 0 tests.0)) (zeros xs tests.1)
+    let tests = and_parts (x == 0) (list_all (λ c. c == 0) xs) h in
+    and_from (nat_lt x (2 ^ 8)) (are_bytes xs) (ap (λ n. nat_lt n (2 ^ 8)) (eqb-true x 0 tests.0)) (zeros xs tests.1)
 
 filled_by : (test : Bool) (x : ℕ) (xs : List ℕ) → is_printable x ≡ test → (is_filled xs ≡ true → are_bytes xs ≡ true) → (if test then is_filled xs else list_all (λ c. c == 0) (x ∷ xs)) ≡ true → are_bytes (x ∷ xs) ≡ true
 filled_by true x xs e more h =
-    let low = leb-true x 0x7E (both_hold (nat_le 0x20 x) (nat_le x 0x7E) e).1 in
-    both_so (nat_lt x (2 ^ 8)) (are_bytes xs) (le-leb (suc x) (2 ^ 8) (omega arith)) (more h)
+    let low = leb-true x 0x7E (and_parts (nat_le 0x20 x) (nat_le x 0x7E) e).1 in
+    and_from (nat_lt x (2 ^ 8)) (are_bytes xs) (le-leb (suc x) (2 ^ 8) (omega arith)) (more h)
 filled_by false x xs e more h = zeros (x ∷ xs) h
 
 filled_bytes : (xs : List ℕ) → is_filled xs ≡ true → are_bytes xs ≡ true
@@ -114,7 +114,7 @@ filled_bytes (x ∷ xs) h = filled_by (is_printable x) x xs refl (filled_bytes x
 command_reads : (c : List ℕ) → is_command c ≡ true → Reads bytes_of (encode_lower c) c
 command_reads [] h = absurd (cc)
 command_reads (b ∷ rest) h =
-    some-bytes-reads b rest (filled_bytes (b ∷ rest) (both_hold ((length (b ∷ rest) == 12) && has_printable_start (b ∷ rest)) (is_filled (b ∷ rest)) h).1)
+    some-bytes-reads b rest (filled_bytes (b ∷ rest) (and_parts ((length (b ∷ rest) == 12) && has_printable_start (b ∷ rest)) (is_filled (b ∷ rest)) h).1)
 
 other_words : (command payload : List ℕ) → is_command command ≡ true → are_bytes payload ≡ true → HasWords (message.Other command payload)
 unfolding words_of message_of_fields
@@ -145,13 +145,13 @@ words_by (message.Version v) w r = let back = version_said_back v (version_range
 words_by message.Verack w r = named_words name.Verack [] message.Verack refl tt refl
 words_by message.WtxidRelay w r = named_words name.WtxidRelay [] message.WtxidRelay refl tt refl
 words_by (message.SendTxRcncl version salt) w r =
-    let tests = both_hold (nat_lt version (2 ^ 32)) (nat_lt salt (2 ^ 64)) r in
+    let tests = and_parts (nat_lt version (2 ^ 32)) (nat_lt salt (2 ^ 64)) r in
     let first = number-reads version (let below = ltb-true version (2 ^ 32) tests.0 in omega arith) in
     let second = salt-reads salt (ltb-true salt (2 ^ 64) tests.1) in
     named_words name.SendTxRcncl (decimal version ∷ salt_word salt ∷ []) (message.SendTxRcncl version salt) refl (first.spaces, (second.spaces, tt))
     (then_some (number_of (decimal version)) version _ _ first.said (then_some (salt_of (salt_word salt)) salt _ _ second.said refl))
 words_by (message.ReqRecon size q) w r =
-    let tests = both_hold (nat_lt size (2 ^ 16)) (nat_lt q (2 ^ 16)) r in
+    let tests = and_parts (nat_lt size (2 ^ 16)) (nat_lt q (2 ^ 16)) r in
     let first = number-reads size (let below = ltb-true size (2 ^ 16) tests.0 in omega arith) in
     let second = number-reads q (let below = ltb-true q (2 ^ 16) tests.1 in omega arith) in
     named_words name.ReqRecon (decimal size ∷ decimal q ∷ []) (message.ReqRecon size q) refl (first.spaces, (second.spaces, tt))
@@ -178,8 +178,8 @@ words_by (message.Pong n) w r =
     let first = number-reads n (ltb-true n (2 ^ 64) r) in
     named_words name.Pong (decimal n ∷ []) (message.Pong n) refl (first.spaces, tt) (then_some (number_of (decimal n)) n _ _ first.said refl)
 words_by (message.Other command payload) w r =
-    let known = both_hold (is_command command && not (is_some (name_at command))) (nat_le (length payload) PAYLOAD_LIMIT) w in
-    other_words command payload (both_hold (is_command command) (not (is_some (name_at command))) known.0).0 r
+    let known = and_parts (is_command command && not (is_some (name_at command))) (nat_le (length payload) PAYLOAD_LIMIT) w in
+    other_words command payload (and_parts (is_command command) (not (is_some (name_at command))) known.0).0 r
 
 -- the message that a line seems to say is the one that is shown in it
 said_back : (m : Message) → HasWords m → message_of_fields (fields_of (message_text m)) ≡ Some m
@@ -188,7 +188,7 @@ said_back m h = ap (λ words. message_of_fields (fields_of (join_with_byte 32 wo
 pub shown_message-message_text : (m : Message) → IsMessage m → shown_message (message_text m) ≡ Some m
 shown_message-message_text m sent =
     then_some (message_of_fields (fields_of (message_text m))) m (message_if_shown (message_text m)) (Some m) (said_back m (words_by m sent.within sent.ranged))
-    (ap (λ t. if t then Some m else None) (both_so (is_message m) (bytes_eq (message_text m) (message_text m)) (both_so (is_within_limits m) (is_in_range m) sent.within sent.ranged) (bytes_eq-self (message_text m))))
+    (ap (λ t. if t then Some m else None) (and_from (is_message m) (bytes_eq (message_text m) (message_text m)) (and_from (is_within_limits m) (is_in_range m) sent.within sent.ranged) (bytes_eq-self (message_text m))))
 
 one_some : (m n : Message) → (let o : Option Message = Some m in o ≡ Some n) → m ≡ n
 one_some m n e = cc
@@ -202,8 +202,8 @@ message_text-injective m n sent other e = one_some m n (sym (shown_message-messa
 checked_by : (t : Bool) (line : List ℕ) (m n : Message) → (is_message m && bytes_eq (message_text m) line) ≡ t → (if t then Some m else None) ≡ Some n → IsShown line n
 checked_by false line m n h e = absurd (cc)
 checked_by true line m n h e =
-    let tests = both_hold (is_message m) (bytes_eq (message_text m) line) h in
-    let sent = both_hold (is_within_limits m) (is_in_range m) tests.0 in
+    let tests = and_parts (is_message m) (bytes_eq (message_text m) line) h in
+    let sent = and_parts (is_within_limits m) (is_in_range m) tests.0 in
     subst (IsShown line) (one_some m n e) (record { sent = record { within = sent.0; ranged = sent.1 }; text = sym (same_text (message_text m) line (sym tests.1)) })
 
 shown_by : (o : Option Message) (line : List ℕ) (m : Message) → (o >>= message_if_shown line) ≡ Some m → IsShown line m

@@ -5,7 +5,7 @@ use Rattle.std.specs.Int.{w32, w64, to_be_bytes, from_be_bytes, bytes_high_first
 use Rattle.std.specs.Fmt.{decimal, signed_decimal}
 use Rattle.std.proofs.Math.Nat.{pow-le-pow_right}
 use Rattle.std.proofs.Math.Seq.{get_or-append_seam}
-use Rattle.std.proofs.lemmas.Bool.{le-leb, ltb-true}
+use Rattle.std.proofs.lemmas.Bool.{le-leb, ltb-true, and_from, and_parts}
 use Rattle.std.proofs.lemmas.Fmt.{decimal_by_steps}
 use Rattle.std.proofs.lemmas.List.{length-append, get_or_append_left}
 use Rattle.std.proofs.lemmas.List.Sums.{list_all-from_AllPass, position_or_len_is}
@@ -20,7 +20,7 @@ use Rattle.wire_rules.specs.Limits.{is_entry}
 use Rattle.wire_rules.specs.Shown.{bytes_word, entry_word, flag_word, relay_word, salt_word}
 use Rattle.wire_rules.specs.ShownReading.{◌>>=◌, bytes_of, decoded_bytes, items_of, entry_of, flag_of, is_colon, negative_number, positive_number, present_byte, relay_of, salt_of, short_of, signed_of}
 use Rattle.wire_rules.specs.declared.message.InvEntry.{InvEntry}
-use Rattle.wire_laws.proofs.Parts.{all_join, both_hold, both_so, drop_front, take_front}
+use Rattle.wire_laws.proofs.Parts.{all_join, drop_front, take_front}
 use Rattle.wire_laws.proofs.Sound.{byte_small}
 use Rattle.wire_laws.proofs.Taken.{small_byte}
 use Rattle.shown_laws.proofs.Fields.{IsSpaceless, another, no-space}
@@ -55,20 +55,20 @@ record IsNumber (n : ℕ) (ds : List ℕ) : Type 0 where
   said : number_of ds ≡ Some n
 
 digit_of : (n : ℕ) → n < 10 → is_digit (48 + n) ≡ true
-digit_of n h = both_so (nat_le 48 (48 + n)) (nat_le (48 + n) 57) (le-leb 48 (48 + n) (omega arith)) (le-leb (48 + n) 57 (omega arith))
+digit_of n h = and_from (nat_le 48 (48 + n)) (nat_le (48 + n) 57) (le-leb 48 (48 + n) (omega arith)) (le-leb (48 + n) 57 (omega arith))
 
 one_digit : (n : ℕ) → n < 10 → IsNumber n ((48 + n) ∷ [])
 unfolding digits_onto
 one_digit n h = record {
   some = omega arith;
-  digits = both_so (is_digit (48 + n)) true (digit_of n h) refl;
+  digits = and_from (is_digit (48 + n)) true (digit_of n h) refl;
   said = ap (λ t. if t then Some (0 * 10 + (48 + n - 48)) else None) (digit_of n h) ∙ ap (λ k. Some k) (omega arith);
 }
 
 more_digits : (n : ℕ) (ds : List ℕ) → 10 ≤ n → IsNumber (n / 10) ds → IsNumber n (ds ++ ((48 + n % 10) ∷ []))
 more_digits n ds low h = record {
   some = let front = h.some in let size = length-append ds ((48 + n % 10) ∷ []) in omega arith;
-  digits = all_join is_digit ds ((48 + n % 10) ∷ []) h.digits (both_so (is_digit (48 + n % 10)) true (digit_of (n % 10) (omega arith)) refl);
+  digits = all_join is_digit ds ((48 + n % 10) ∷ []) h.digits (and_from (is_digit (48 + n % 10)) true (digit_of (n % 10) (omega arith)) refl);
   said = digits_push 0 ds (48 + n % 10) (n / 10) (digit_of (n % 10) (omega arith)) h.said ∙ ap (λ k. Some k) (omega arith);
 }
 
@@ -83,7 +83,7 @@ number-reads n h = let number = decimal_number n h in record { spaces = record {
 signed_by : (n : ℕ) (ds : List ℕ) → IsNumber n ds → signed_of ds ≡ Some (pos n)
 signed_by n [] number = absurd (let some = number.some in omega arith)
 signed_by n (b ∷ ds) number =
-    ap (λ t. if t then (number_of ds >>= negative_number) else positive_number (number_of (b ∷ ds))) (another is_digit b 45 (both_hold (is_digit b) (list_all is_digit ds) number.digits).0 refl)
+    ap (λ t. if t then (number_of ds >>= negative_number) else positive_number (number_of (b ∷ ds))) (another is_digit b 45 (and_parts (is_digit b) (list_all is_digit ds) number.digits).0 refl)
     ∙ ap positive_number number.said
 
 -- a number of n bits and a sign is one of 64 bits
@@ -134,7 +134,7 @@ bytes-reads (b ∷ xs) h = some-bytes-reads b xs h
 
 high_bytes : (k n : ℕ) → are_bytes (bytes_high_first k n) ≡ true
 high_bytes zero n = refl
-high_bytes (suc k) n = both_so (nat_lt (byte_at k n) (2 ^ 8)) (are_bytes (bytes_high_first k n)) (byte_small k n) (high_bytes k n)
+high_bytes (suc k) n = and_from (nat_lt (byte_at k n) (2 ^ 8)) (are_bytes (bytes_high_first k n)) (byte_small k n) (high_bytes k n)
 
 pub short-reads : (n : ℕ) → nat_lt n (2 ^ 32) ≡ true → Reads short_of (eight_digits n) n
 short-reads n h =
@@ -155,7 +155,7 @@ flag-reads false = record { spaces = record { none = refl }; said = refl }
 -- digits are no word of letters
 no_word : (ds : List ℕ) (c : ℕ) (word : List ℕ) → 0 < length ds → list_all is_digit ds ≡ true → is_digit c ≡ false → bytes_eq ds (c ∷ word) ≡ false
 no_word [] c word some h e = absurd (omega arith)
-no_word (b ∷ ds) c word some h e = ap (λ t. t && bytes_eq ds word) (another is_digit b c (both_hold (is_digit b) (list_all is_digit ds) h).0 e)
+no_word (b ∷ ds) c word some h e = ap (λ t. t && bytes_eq ds word) (another is_digit b c (and_parts (is_digit b) (list_all is_digit ds) h).0 e)
 
 pub relay-reads : (o : Option ℕ) → is_optional_byte o ≡ true → Reads relay_of (relay_word o) o
 relay-reads None h = record { spaces = record { none = refl }; said = refl }
@@ -171,8 +171,8 @@ relay-reads (Some b) h =
 -- no digit is a colon
 no_colon : (ds : List ℕ) → list_all is_digit ds ≡ true → (k : ℕ) → k < length ds → is_colon (get_or ds k 0) ≡ false
 no_colon [] h k low = absurd (omega arith)
-no_colon (b ∷ ds) h zero low = another is_digit b 58 (both_hold (is_digit b) (list_all is_digit ds) h).0 refl
-no_colon (b ∷ ds) h (suc k) low = no_colon ds (both_hold (is_digit b) (list_all is_digit ds) h).1 k (omega arith)
+no_colon (b ∷ ds) h zero low = another is_digit b 58 (and_parts (is_digit b) (list_all is_digit ds) h).0 refl
+no_colon (b ∷ ds) h (suc k) low = no_colon ds (and_parts (is_digit b) (list_all is_digit ds) h).1 k (omega arith)
 
 -- a number ends at the first colon
 module _ (ds rest : List ℕ) (digits : list_all is_digit ds ≡ true) where
@@ -194,11 +194,11 @@ module _ (ds rest : List ℕ) (digits : list_all is_digit ds ≡ true) where
 pub entry-reads : (e : InvEntry) → is_entry e ≡ true → Reads entry_of (entry_word e) e
 unfolding entry_of
 entry-reads e h =
-    let tests = both_hold (nat_lt e.kind (2 ^ 32)) (are_bytes_of 32 e.id.0) h in
+    let tests = and_parts (nat_lt e.kind (2 ^ 32)) (are_bytes_of 32 e.id.0) h in
     let low : e.kind < 2 ^ 64 = let below = ltb-true e.kind (2 ^ 32) tests.0 in omega arith in
     let number = decimal_number e.kind low in
     let kind = number-reads e.kind low in
-    let id = hex-reads e.id.0 (both_hold (length e.id.0 == 32) (are_bytes e.id.0) tests.1).1 in
+    let id = hex-reads e.id.0 (and_parts (length e.id.0 == 32) (are_bytes e.id.0) tests.1).1 in
     let word = decimal e.kind ++ (58 ∷ encode_lower e.id.0) in
     let same = append_assoc (decimal e.kind) (58 ∷ []) (encode_lower e.id.0) in
     subst (λ xs. Reads entry_of xs e) (sym same) (record {
@@ -213,11 +213,11 @@ entry-reads e h =
 module _ {A : Type 0} (item : List ℕ → Option A) (spell : A → List ℕ) (test : A → Bool) (reads : (x : A) → test x ≡ true → Reads item (spell x) x) where
   pub each-spaces : (xs : List A) → list_all test xs ≡ true → AllByRecursion IsSpaceless (map spell xs)
   each-spaces [] h = tt
-  each-spaces (x ∷ xs) h = let tests = both_hold (test x) (list_all test xs) h in ((reads x tests.0).spaces, each-spaces xs tests.1)
+  each-spaces (x ∷ xs) h = let tests = and_parts (test x) (list_all test xs) h in ((reads x tests.0).spaces, each-spaces xs tests.1)
 
   pub each-said : (xs : List A) → list_all test xs ≡ true → items_of item (map spell xs) ≡ Some xs
   unfolding items_of
   each-said [] h = refl
   each-said (x ∷ xs) h =
-      let tests = both_hold (test x) (list_all test xs) h in
+      let tests = and_parts (test x) (list_all test xs) h in
       then_some (item (spell x)) x _ _ (reads x tests.0).said (then_some (items_of item (map spell xs)) xs _ _ (each-said xs tests.1) refl)

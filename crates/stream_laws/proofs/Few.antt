@@ -1,9 +1,9 @@
 -- How long what is unfinished may be.
-use Rattle.std.proofs.Common.{◌≡◌, ℕ, ◌+◌, ◌<◌, ◌≤◌, Bool, true, false, List, Option, Some, None, length, take, drop, bytes_eq, nat_le, refl, arith}
+use Rattle.std.proofs.Common.{◌≡◌, ℕ, ◌+◌, ◌<◌, Bool, true, false, List, length, take, drop, bytes_eq, nat_le, refl, arith}
 use Rattle.std.proofs.lemmas.Bool.{leb-true, leb-false}
 use Rattle.std.proofs.lemmas.List.{length-drop}
 use Rattle.wire_rules.specs.Commands.{is_command}
-use Rattle.wire_rules.specs.Stream.{Header, PartialFrame, header_of, header_fault, fault_of_header, front_by_checksum, front_of_payload, front_by_payload, front_by_header, front_by_length, front_of}
+use Rattle.wire_rules.specs.Stream.{Header, PartialFrame, header_of, header_fault, front_by_checksum, front_by_payload, front_by_header, front_by_length, front_of}
 use Rattle.wire_rules.specs.Layout.{checksum}
 use Rattle.wire_rules.specs.declared.limits.TheConstants.{PAYLOAD_LIMIT}
 

@@ -12,7 +12,7 @@ use Rattle.wire_rules.specs.Stream.{Header, WholeFrame, header_of, header_fault,
 use Rattle.wire_rules.specs.declared.frame.Frame.{Frame}
 use Rattle.wire_rules.specs.declared.limits.TheConstants.{PAYLOAD_LIMIT}
 use Rattle.wire_laws.proofs.Taken.{small_byte}
-use Rattle.wire_laws.proofs.Parts.{bytes_split}
+use Rattle.id_rules.proofs.Bytes.{bytes_split}
 use Rattle.stream_laws.specs.FrameReading.{IsFirstFrame}
 
 -- the tests that a whole front has passed

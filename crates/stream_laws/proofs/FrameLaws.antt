@@ -2,6 +2,7 @@
 -- another.
 use Rattle.std.proofs.Common.{◌≡◌, ◌⊎◌, inl, inr, ℕ, ◌-◌, ◌^◌, ◌<◌, true, List, ◌++◌, Option, Some, None, length, refl, sym, subst}
 use Rattle.id_rules.specs.Bytes.{are_bytes}
+use Rattle.id_rules.proofs.Lists.{all_append}
 use Rattle.wire_rules.specs.Layout.{frame_bytes}
 use Rattle.wire_rules.specs.Limits.{IsFrame}
 use Rattle.wire_rules.specs.Stream.{FaultyFrame, Frames, FrameStop, front_of, later_offset}
@@ -9,7 +10,7 @@ use Rattle.wire_rules.specs.declared.frame.Frame.{Frame}
 use Rattle.wire_rules.specs.declared.frame.FrameFault.{FrameFault}
 use Rattle.stream_laws.specs.FrameReading.{frames_of}
 use Rattle.stream_laws.proofs.FrameSteps.{as_read, frame_step, frames_of-reading, is_read-frames, is_read-all, frames-is_read, is_read-one, is_read-same, stop-is_read, is_read-stop}
-use Rattle.stream_laws.proofs.Items.{join-each, join-offset, join-whole, more-offset, more-whole, Reading, reading, one_fault, no_fault}
+use Rattle.stream_laws.proofs.Items.{join-offset, join-whole, more-offset, more-whole, Reading, reading, one_fault, no_fault}
 use Rattle.stream_laws.proofs.Stays.{fault-stays}
 
 -- a rest of bytes is read, from an offset on
@@ -70,7 +71,7 @@ module _ (magic p rest q : List ℕ) (fs gs : List Frame) (first : Frames magic 
   pub frames-join : (left : List ℕ) → Frames magic (rest ++ q) gs left → Frames magic (p ++ q) (fs ++ gs) left
   frames-join left second = record {
     whole = join-whole (frame_bytes magic) p rest q left fs gs first.whole second.whole;
-    each = join-each IsFrame fs gs first.each second.each;
+    each = all_append IsFrame fs gs first.each second.each;
     partial = second.partial;
   }
 
@@ -78,7 +79,7 @@ module _ (magic p rest q : List ℕ) (fs gs : List Frame) (first : Frames magic 
   stop-join offset fault second = record {
     rest = second.rest;
     whole = join-whole (frame_bytes magic) p rest q second.rest fs gs first.whole second.whole;
-    each = join-each IsFrame fs gs first.each second.each;
+    each = all_append IsFrame fs gs first.each second.each;
     faulty = subst (λ at. front_of magic at second.rest ≡ FaultyFrame fault) (join-offset (frame_bytes magic) p rest q second.rest fs gs first.whole second.whole offset) second.faulty;
   }
 

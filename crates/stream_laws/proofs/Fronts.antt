@@ -2,7 +2,7 @@
 use Rattle.std.proofs.Common.{◌≡◌, ℕ, ◌+◌, ◌-◌, ◌<◌, ◌≤◌, Bool, true, false, List, [], ◌++◌, None, length, take, drop, slice_range, nat_le, ◌&&◌, ◌==◌, refl, sym, ap, subst, ◌∙◌, arith, append_assoc, le_of_lt}
 use Rattle.std.specs.Int.{w32, to_le_bytes, from_le_bytes}
 use Rattle.std.proofs.Math.Seq.{take-append-add}
-use Rattle.std.proofs.lemmas.Bool.{eqb-true, lt-leb, leb-true, leb-false}
+use Rattle.std.proofs.lemmas.Bool.{eqb-true, lt-leb, leb-true, leb-false, and_parts, le-leb}
 use Rattle.std.proofs.lemmas.List.{length-append, length-take-le}
 use Rattle.std.proofs.lemmas.Nat.{from_le_bytes-to_le_bytes_4}
 use Rattle.sha2.specs.Sha256.{sha256, digest_bytes}
@@ -12,7 +12,7 @@ use Rattle.wire_rules.specs.Limits.{IsFrame}
 use Rattle.wire_rules.specs.Stream.{Header, PartialFrame, WholeFrame, header_of, header_fault, fault_of_header, front_by_checksum, front_of_payload, front_by_payload, front_by_header, front_by_length, front_of}
 use Rattle.wire_rules.specs.declared.frame.Frame.{Frame}
 use Rattle.wire_rules.specs.declared.limits.TheConstants.{PAYLOAD_LIMIT}
-use Rattle.wire_laws.proofs.Parts.{take_front, drop_front, bytes_eq-self, both_hold, le_holds}
+use Rattle.wire_laws.proofs.Parts.{take_front, drop_front, bytes_eq-self}
 
 -- a checksum has 4 bytes
 pub checksum-length : (payload : List ℕ) → length (checksum payload) ≡ 4
@@ -24,7 +24,7 @@ size_length n = refl
 
 -- a sound command has 12 bytes
 pub command-length : (c : List ℕ) → is_command c ≡ true → length c ≡ 12
-command-length c h = eqb-true (length c) 12 (both_hold (length c == 12) (has_printable_start c) (both_hold ((length c == 12) && has_printable_start c) (is_filled c) h).0).0
+command-length c h = eqb-true (length c) 12 (and_parts (length c == 12) (has_printable_start c) (and_parts ((length c == 12) && has_printable_start c) (is_filled c) h).0).0
 
 -- four parts of 4, 12, 4 and 4 bytes, and what stands behind them
 module _ (a b c d rest : List ℕ) (la : length a ≡ 4) (lb : length b ≡ 12) (lc : length c ≡ 4) (ld : length d ≡ 4) where
@@ -90,14 +90,14 @@ module _ (magic : List ℕ) (four : length magic ≡ 4) (offset : ℕ) (f : Fram
   behind = rest_of_parts magic f.command (to_le_bytes w32 (length f.payload)) (checksum f.payload) rest four (command-length f.command sound.command) (size_length (length f.payload)) (checksum-length f.payload)
 
   long : nat_le 24 (length (head_bytes magic f ++ rest)) ≡ true
-  long = le_holds 24 (length (head_bytes magic f ++ rest)) (subst (λ n. 24 ≤ n) (sym (length_of_parts magic f.command (to_le_bytes w32 (length f.payload)) (checksum f.payload) rest four (command-length f.command sound.command) (size_length (length f.payload)) (checksum-length f.payload))) (omega arith))
+  long = le-leb 24 (length (head_bytes magic f ++ rest)) (subst (λ n. 24 ≤ n) (sym (length_of_parts magic f.command (to_le_bytes w32 (length f.payload)) (checksum f.payload) rest four (command-length f.command sound.command) (size_length (length f.payload)) (checksum-length f.payload))) (omega arith))
 
   no_fault : fault_of_header magic offset (header_with magic f) ≡ None
   unfolding header_fault
   no_fault =
       ap (λ b. header_fault offset (length f.payload) b (is_command f.command) (nat_le (length f.payload) PAYLOAD_LIMIT)) (bytes_eq-self magic)
       ∙ (ap (λ b. header_fault offset (length f.payload) true b (nat_le (length f.payload) PAYLOAD_LIMIT)) sound.command
-      ∙ ap (λ b. header_fault offset (length f.payload) true true b) (le_holds (length f.payload) PAYLOAD_LIMIT sound.within))
+      ∙ ap (λ b. header_fault offset (length f.payload) true true b) (le-leb (length f.payload) PAYLOAD_LIMIT sound.within))
 
   pub front_of_head : front_of magic offset (head_bytes magic f ++ rest) ≡ front_by_payload (nat_le (length f.payload) (length rest)) offset (header_with magic f) rest
   unfolding front_by_length front_by_header
@@ -119,7 +119,7 @@ front_of-frame magic offset f more four sound =
     ∙ ap (λ b. front_by_checksum b offset (header_with magic f) f.payload) (bytes_eq-self (checksum f.payload)))))
   where
     enough : nat_le (length f.payload) (length (f.payload ++ more)) ≡ true
-    enough = le_holds (length f.payload) (length (f.payload ++ more)) (subst (λ n. length f.payload ≤ n) (sym (length-append f.payload more)) (omega arith))
+    enough = le-leb (length f.payload) (length (f.payload ++ more)) (subst (λ n. length f.payload ≤ n) (sym (length-append f.payload more)) (omega arith))
 
 -- fewer bytes than a header has are partial
 pub short_front : (magic : List ℕ) (offset : ℕ) (bytes : List ℕ) → length bytes < 24 → front_of magic offset bytes ≡ PartialFrame

@@ -223,10 +223,6 @@ module _ {A : Type 0} (spell : A → List ℕ) (p rest q left : List ℕ) (xs ys
       let b = ap length second ∙ length-append (flat_map spell ys) left in
       let c = length-append rest q in let d = length-append p q in omega arith)
 
-pub join-each : {A : Type 0} (IsSound : A → Type 0) (xs ys : List A) → AllByRecursion IsSound xs → AllByRecursion IsSound ys → AllByRecursion IsSound (xs ++ ys)
-join-each IsSound [] ys hx hy = hy
-join-each IsSound (x ∷ xs) ys hx hy = (hx.0, join-each IsSound xs ys hx.1 hy)
-
 -- more bytes behind a rest
 module _ {A : Type 0} (spell : A → List ℕ) (p rest q : List ℕ) (xs : List A) (whole : p ≡ flat_map spell xs ++ rest) where
   pub more-whole : p ++ q ≡ flat_map spell xs ++ (rest ++ q)

@@ -2,7 +2,7 @@
 -- offset.
 use Rattle.std.proofs.Common.{◌≡◌, ℕ, ◌-◌, ◌≤◌, Bool, true, false, List, ◌++◌, Option, Some, None, length, take, drop, slice_range, bytes_eq, nat_le, refl, sym, ap, ◌∙◌, arith}
 use Rattle.std.specs.Int.{w32, from_le_bytes}
-use Rattle.std.proofs.lemmas.Bool.{leb-true}
+use Rattle.std.proofs.lemmas.Bool.{leb-true, le-leb}
 use Rattle.std.proofs.lemmas.List.{length-append, length-drop, take-append-le, drop-append-le}
 use Rattle.wire_rules.specs.Commands.{is_command}
 use Rattle.wire_rules.specs.Layout.{checksum}
@@ -10,7 +10,6 @@ use Rattle.wire_rules.specs.Stream.{Front, Header, FaultyFrame, PartialFrame, Wh
 use Rattle.wire_rules.specs.declared.frame.Frame.{Frame}
 use Rattle.wire_rules.specs.declared.frame.FrameFault.{FrameFault}
 use Rattle.wire_rules.specs.declared.limits.TheConstants.{HEADER_LEN, PAYLOAD_LIMIT}
-use Rattle.wire_laws.proofs.Parts.{le_holds}
 
 -- ---- a front that isn't partial stays, whatever follows
 
@@ -21,7 +20,7 @@ payload_stays false offset h behind more e whole = absurd (whole refl)
 payload_stays true offset h behind more e whole =
     let low = leb-true h.size (length behind) e in
     let sum = length-append behind more in
-    ap (λ b. front_by_payload b offset h (behind ++ more)) (le_holds h.size (length (behind ++ more)) (omega (arith, low, sum)))
+    ap (λ b. front_by_payload b offset h (behind ++ more)) (le-leb h.size (length (behind ++ more)) (omega (arith, low, sum)))
     ∙ ap (front_of_payload offset h) (take-append-le h.size behind more low)
 
 header_stays : (o : Option FrameFault) (offset : ℕ) (h : Header) (behind more : List ℕ) → (front_by_header o offset h behind ≡ PartialFrame → ⊥)
@@ -50,7 +49,7 @@ length_stays false magic offset bytes more e whole = absurd (whole refl)
 length_stays true magic offset bytes more e whole =
     let low = leb-true 24 (length bytes) e in
     let sum = length-append bytes more in
-    ap (λ b. front_by_length b magic offset (bytes ++ more)) (le_holds 24 (length (bytes ++ more)) (omega (arith, low, sum)))
+    ap (λ b. front_by_length b magic offset (bytes ++ more)) (le-leb 24 (length (bytes ++ more)) (omega (arith, low, sum)))
     ∙ (ap (λ h. front_by_header (fault_of_header magic offset h) offset h (drop 24 (bytes ++ more))) (same_header bytes more low)
     ∙ (ap (front_by_header (fault_of_header magic offset (header_of bytes)) offset (header_of bytes)) (drop-append-le 24 bytes more low)
     ∙ header_stays (fault_of_header magic offset (header_of bytes)) offset (header_of bytes) (drop 24 bytes) more whole))

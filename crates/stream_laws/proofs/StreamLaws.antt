@@ -4,6 +4,7 @@ use Rattle.std.proofs.Common.{◌≡◌, ◌⊎◌, inl, inr, ℕ, ◌+◌, ◌-
 use Rattle.std.specs.List.{AllByRecursion}
 use Rattle.std.proofs.lemmas.Grind.{flat_map-append}
 use Rattle.id_rules.specs.Bytes.{are_bytes}
+use Rattle.id_rules.proofs.Lists.{all_append, all_left, all_right}
 use Rattle.wire_rules.specs.Layout.{frame_bytes, wire_bytes, message_bytes}
 use Rattle.wire_rules.specs.Limits.{IsFrame, IsMessage}
 use Rattle.wire_rules.specs.Reading.{message_of}
@@ -15,7 +16,7 @@ use Rattle.wire_rules.specs.declared.message.Message.{Message}
 use Rattle.wire_laws.proofs.Said.{message_of-said}
 use Rattle.stream_laws.specs.StreamReading.{IsReadAs, IsStoppedAs}
 use Rattle.stream_laws.proofs.Fronts.{front_of-frame}
-use Rattle.stream_laws.proofs.Items.{join-each, join-offset, join-whole, more-offset, more-whole, Reading, reading, one_fault, no_fault}
+use Rattle.stream_laws.proofs.Items.{join-offset, join-whole, more-offset, more-whole, Reading, reading, one_fault, no_fault}
 use Rattle.stream_laws.proofs.MessageSteps.{stops-stay, message_step, stream_of-reading, is_read-stream, is_read-all, stream-is_read, is_read-one, is_read-same, stop-is_read, is_read-stop}
 
 -- a rest of bytes is read, from an offset on
@@ -81,7 +82,7 @@ module _ (magic p rest q : List ℕ) (ms ns : List Message) (first : Stream magi
   pub stream-join : (left : List ℕ) → Stream magic (rest ++ q) ns left → Stream magic (p ++ q) (ms ++ ns) left
   stream-join left second = record {
     whole = join-whole (message_bytes magic) p rest q left ms ns first.whole second.whole;
-    each = join-each IsMessage ms ns first.each second.each;
+    each = all_append IsMessage ms ns first.each second.each;
     partial = second.partial;
   }
 
@@ -89,7 +90,7 @@ module _ (magic p rest q : List ℕ) (ms ns : List Message) (first : Stream magi
   stop-join offset fault second = record {
     rest = second.rest;
     whole = join-whole (message_bytes magic) p rest q second.rest ms ns first.whole second.whole;
-    each = join-each IsMessage ms ns first.each second.each;
+    each = all_append IsMessage ms ns first.each second.each;
     faulty = subst (λ at. IsStopAt magic at second.rest fault) (join-offset (message_bytes magic) p rest q second.rest ms ns first.whole second.whole offset) second.faulty;
   }
 
@@ -130,14 +131,9 @@ module _ (magic bytes : List ℕ) (fs : List Frame) (ms : List Message) (read : 
       record { rest = s.rest; whole = s.whole ∙ ap (λ xs. xs ++ s.rest) said.0; each = said.1; faulty = FrameStopAt fault s.faulty }
 
   module _ (p : ℕ) (f : Frame) (gs : List Frame) (fault : PayloadFault) (four : length magic ≡ 4) (first : message_of f ≡ Err fault) where
-    each_parts : (xs ys : List Frame) → AllByRecursion IsFrame (xs ++ ys) → AllByRecursion IsFrame xs × AllByRecursion IsFrame ys
-    each_parts [] ys h = (tt, h)
-    each_parts (x ∷ xs) ys h = let parts = each_parts xs ys h.1 in ((h.0, parts.0), parts.1)
-
     payload_stop : (rest : List ℕ) → bytes ≡ flat_map (frame_bytes magic) (fs ++ (f ∷ gs)) ++ rest → AllByRecursion IsFrame (fs ++ (f ∷ gs)) → Stop magic p bytes ms (StreamPayloadFault fault)
     payload_stop rest whole each =
-        let parts = each_parts fs (f ∷ gs) each in
-        let said = all_said magic fs ms parts.0 read in
+        let said = all_said magic fs ms (all_left IsFrame fs (f ∷ gs) each) read in
         let behind = flat_map (frame_bytes magic) gs ++ rest in
         let left = frame_bytes magic f ++ behind in
         record {
@@ -148,7 +144,7 @@ module _ (magic bytes : List ℕ) (fs : List Frame) (ms : List Message) (read : 
               ∙ (append_assoc (flat_map (frame_bytes magic) fs) (frame_bytes magic f ++ flat_map (frame_bytes magic) gs) rest
               ∙ ((λ i. said.0 i ++ append_assoc (frame_bytes magic f) (flat_map (frame_bytes magic) gs) rest i))));
           each = said.1;
-          faulty = PayloadStopAt f (24 + length f.payload) fault (front_of-frame magic (later_offset p (length bytes - length left)) f behind four parts.1.0) first;
+          faulty = PayloadStopAt f (24 + length f.payload) fault (front_of-frame magic (later_offset p (length bytes - length left)) f behind four (all_right IsFrame fs (f ∷ gs) each).0) first;
         }
 
     -- the first payload fault ends the stream, whatever is behind it

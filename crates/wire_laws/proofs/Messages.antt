@@ -2,7 +2,7 @@
 use Rattle.std.proofs.Common.{◌≡◌, ℕ, ◌+◌, ◌^◌, ◌<◌, ◌≤◌, ◌&&◌, Bool, true, not, is_some, List, [], ◌∷◌, ◌++◌, Option, Some, None, Result, Ok, length, nat_lt, nat_le, flat_map, refl, sym, ap, ◌∙◌, append_assoc, append-nil, lit<}
 use Rattle.std.specs.List.{list_all}
 use Rattle.std.specs.Int.{w16, w32, w64, to_le_bytes}
-use Rattle.std.proofs.lemmas.Bool.{ltb-true, leb-true}
+use Rattle.std.proofs.lemmas.Bool.{ltb-true, leb-true, and_parts}
 use Rattle.id_rules.specs.Bytes.{is_tx_length}
 use Rattle.wire_rules.specs.Commands.{word_of, command_of, is_command, name_at}
 use Rattle.wire_rules.specs.Layout.{compact_size, counted_bytes, diff_payload, entry_bytes, flag_byte, frame_of, inventory, named_frame, optional_byte, signed_bytes, version_payload}
@@ -16,7 +16,7 @@ use Rattle.wire_rules.specs.declared.message.Message.TheVariants as message
 use Rattle.wire_rules.specs.declared.message.VersionMsg.{VersionMsg}
 use Rattle.wire_rules.specs.declared.name.Name.{Name}
 use Rattle.wire_rules.specs.declared.name.Name.TheVariants as name
-use Rattle.wire_laws.proofs.Parts.{VersionRanges, both_hold, of_length, version_ranges}
+use Rattle.wire_laws.proofs.Parts.{VersionRanges, of_length, version_ranges}
 use Rattle.wire_laws.proofs.Readers.{then_so, bytes_at-front, number_at-16, number_at-32, number_at-64, signed_at-32, signed_at-64, counted_items_at-front, counted_bytes-front, short-front, entry-front, flag-front, optional-front}
 
 -- each command that is known is found under its name
@@ -121,10 +121,10 @@ read_back (message.Version v) w r = named_frame-says name.Version (version_paylo
 read_back message.Verack w r = named_frame-says name.Verack [] message.Verack refl
 read_back message.WtxidRelay w r = named_frame-says name.WtxidRelay [] message.WtxidRelay refl
 read_back (message.SendTxRcncl version salt) w r =
-    let tests = both_hold (nat_lt version (2 ^ 32)) (nat_lt salt (2 ^ 64)) r in
+    let tests = and_parts (nat_lt version (2 ^ 32)) (nat_lt salt (2 ^ 64)) r in
     named_frame-says name.SendTxRcncl (to_le_bytes w32 version ++ to_le_bytes w64 salt) (message.SendTxRcncl version salt) (salt-says version salt (ltb-true version (2 ^ 32) tests.0) (ltb-true salt (2 ^ 64) tests.1))
 read_back (message.ReqRecon size q) w r =
-    let tests = both_hold (nat_lt size (2 ^ 16)) (nat_lt q (2 ^ 16)) r in
+    let tests = and_parts (nat_lt size (2 ^ 16)) (nat_lt q (2 ^ 16)) r in
     named_frame-says name.ReqRecon (to_le_bytes w16 size ++ to_le_bytes w16 q) (message.ReqRecon size q) (request-says size q (ltb-true size (2 ^ 16) tests.0) (ltb-true q (2 ^ 16) tests.1))
 read_back (message.Sketch bytes) w r = named_frame-says name.Sketch (counted_bytes bytes) (message.Sketch bytes) (sketch-says bytes (leb-true (length bytes) LIST_LIMIT w))
 read_back message.ReqSketchExt w r = named_frame-says name.ReqSketchExt [] message.ReqSketchExt refl
@@ -136,8 +136,8 @@ read_back (message.Tx tx) w r = named_frame-says name.Tx tx (message.Tx tx) (tx-
 read_back (message.Ping n) w r = named_frame-says name.Ping (to_le_bytes w64 n) (message.Ping n) (number-says message.Ping n (ltb-true n (2 ^ 64) r))
 read_back (message.Pong n) w r = named_frame-says name.Pong (to_le_bytes w64 n) (message.Pong n) (number-says message.Pong n (ltb-true n (2 ^ 64) r))
 read_back (message.Other command payload) w r =
-    let known = both_hold (is_command command && not (is_some (name_at command))) (nat_le (length payload) PAYLOAD_LIMIT) w in
-    other-says command payload (both_hold (is_command command) (not (is_some (name_at command))) known.0).1
+    let known = and_parts (is_command command && not (is_some (name_at command))) (nat_le (length payload) PAYLOAD_LIMIT) w in
+    other-says command payload (and_parts (is_command command) (not (is_some (name_at command))) known.0).1
 
 -- a message that may be sent is what its frame says
 pub message_of-frame_of : (m : Message) → IsMessage m → message_of (frame_of m) ≡ Ok m

@@ -2,7 +2,7 @@
 use Rattle.std.proofs.Common.{◌≡◌, ℕ, suc, ◌+◌, ◌^◌, ◌<◌, ◌≤◌, Bool, true, false, List, [], ◌∷◌, ◌++◌, ℤ, pos, negsuc, FitsSigned, if◌then◌else◌, ◌==◌, Option, Some, None, Result, Ok, length, nat_lt, refl, sym, ap, subst, ◌∙◌, arith, append_assoc, flat_map, lit<}
 use Rattle.std.specs.List.{list_all}
 use Rattle.std.specs.Int.{w8, w16, w32, w64, to_le_bytes, from_le_bytes, cast_signed, cast_unsigned}
-use Rattle.std.proofs.lemmas.Bool.{lt-leb, leb-false, ltb-true, ne_eqb}
+use Rattle.std.proofs.lemmas.Bool.{lt-leb, leb-false, ltb-true, ne_eqb, and_parts, le-leb}
 use Rattle.std.proofs.lemmas.Int.{to_z-of_z}
 use Rattle.std.proofs.lemmas.List.{length-append}
 use Rattle.std.proofs.lemmas.Nat.{from_le_bytes-to_le_bytes_2, from_le_bytes-to_le_bytes_4, from_le_bytes-to_le_bytes_8}
@@ -13,7 +13,7 @@ use Rattle.wire_rules.specs.Limits.{is_entry}
 use Rattle.wire_rules.specs.declared.limits.TheConstants.{LIST_LIMIT}
 use Rattle.wire_rules.specs.declared.message.InvEntry.{InvEntry}
 use Rattle.wire_rules.specs.declared.faults.PayloadKind.TheVariants as fault
-use Rattle.wire_laws.proofs.Parts.{take_front, drop_front, both_hold, le_holds, of_length}
+use Rattle.wire_laws.proofs.Parts.{take_front, drop_front, of_length}
 
 -- a cursor
 abbrev pub cursor : ℕ → List ℕ → Cursor
@@ -117,7 +117,7 @@ count_by false limit at n ys h within low = (at + 1 + 2, count_marked limit at n
 
 pub two_bytes : (n : ℕ) → n < 2 ^ 16 → compact_size n ≡ (if nat_lt n 0xFD then n ∷ [] else 0xFD ∷ to_le_bytes w16 n)
 unfolding compact_size
-two_bytes n h = rw (le_holds (suc n) (2 ^ 16) h) refl
+two_bytes n h = rw (le-leb (suc n) (2 ^ 16) h) refl
 
 pub count_at-front : (limit at n : ℕ) (ys : List ℕ) → n ≤ limit → limit < 2 ^ 16 → (next : ℕ) × (count_at limit (cursor at (compact_size n ++ ys)) ≡ Ok (n, cursor next ys))
 count_at-front limit at n ys within low =
@@ -132,7 +132,7 @@ module _ {A : Type 0} (item : Cursor → FieldReading A) (spell : A → List ℕ
   unfolding items_at
   items_at-front [] at ys h = (at, refl)
   items_at-front (x ∷ xs) at ys h =
-      let tests = both_hold (test x) (list_all test xs) h in
+      let tests = and_parts (test x) (list_all test xs) h in
       let one = reads x at (flat_map spell xs ++ ys) tests.0 in
       let more = items_at-front xs one.0 ys tests.1 in (
         more.0,
@@ -169,7 +169,7 @@ short-front n at ys h = (at + 4, number_at-32 at n ys (ltb-true n (2 ^ 32) h))
 pub entry-front : (e : InvEntry) (at : ℕ) (ys : List ℕ) → is_entry e ≡ true → (next : ℕ) × (entry_at (cursor at (entry_bytes e ++ ys)) ≡ Ok (e, cursor next ys))
 unfolding entry_at
 entry-front e at ys h =
-    let tests = both_hold (nat_lt e.kind (2 ^ 32)) (are_bytes_of 32 e.id.0) h in
+    let tests = and_parts (nat_lt e.kind (2 ^ 32)) (are_bytes_of 32 e.id.0) h in
     let size = of_length 32 e.id.0 tests.1 in (
       at + 4 + 32,
       then_so _ _ _ _ (number_at-32 at e.kind (e.id.0 ++ ys) (ltb-true e.kind (2 ^ 32) tests.0)) (then_so _ _ _ _ (bytes_at-front 32 (at + 4) e.id.0 ys size) refl),

@@ -1,5 +1,6 @@
 -- What a frame says is a message that may be sent, and the frame is this message's.
 use Rattle.std.proofs.Common.{◌≡◌, ℕ, suc, ◌^◌, ◌≤◌, ◌&&◌, Bool, true, false, not, is_some, List, [], ◌∷◌, ◌++◌, Option, Some, None, Result, Ok, Err, length, nat_lt, nat_le, flat_map, find, cond, bytes_eq, refl, sym, ap, subst, ◌∙◌, arith, lit<}
+use Rattle.std.proofs.lemmas.Bool.{and_from, and_parts, le-leb}
 use Rattle.std.specs.List.{list_all}
 use Rattle.std.specs.Cmp.Lexicographic.{same_text}
 use Rattle.std.specs.Int.{w16, w32, w64, to_le_bytes}
@@ -18,7 +19,7 @@ use Rattle.wire_rules.specs.declared.message.VersionMsg.{VersionMsg}
 use Rattle.wire_rules.specs.declared.name.Name.{Name}
 use Rattle.wire_rules.specs.declared.name.Name.TheVariants as name
 use Rattle.wire_laws.specs.Readings.{IsFrameOf}
-use Rattle.wire_laws.proofs.Parts.{both_hold, both_so, bytes_split, le_holds}
+use Rattle.id_rules.proofs.Bytes.{bytes_split}
 use Rattle.wire_laws.proofs.Taken.{Took, both_said, from_ok, number-tested, number_at-took_2, number_at-took_8}
 use Rattle.wire_laws.proofs.TakenLists.{took_both, bytes-took, counted_bytes-took, counted_items_at-took, message_at_end-took, entry-took, field-took, flag-took, optional-took, short-took, signed_at-took_4, signed_at-took_8}
 
@@ -85,26 +86,26 @@ salt-said : (payload : List ℕ) (m : Message) → are_bytes payload ≡ true �
 unfolding salt_in frame_of is_within_limits is_in_range
 salt-said =
     two-said (number_at w32) (to_le_bytes w32) (λ k. nat_lt k (2 ^ 32)) short-took (number_at w64) (to_le_bytes w64) (λ k. nat_lt k (2 ^ 64)) reads_64 name.SendTxRcncl message.SendTxRcncl
-    (λ version salt. refl) (λ version salt a b. record { within = refl; ranged = both_so (nat_lt version (2 ^ 32)) (nat_lt salt (2 ^ 64)) a b })
+    (λ version salt. refl) (λ version salt a b. record { within = refl; ranged = and_from (nat_lt version (2 ^ 32)) (nat_lt salt (2 ^ 64)) a b })
 
 request-said : (payload : List ℕ) (m : Message) → are_bytes payload ≡ true → request_in payload ≡ Ok m → Says name.ReqRecon payload m
 unfolding request_in frame_of is_within_limits is_in_range
 request-said =
     two-said (number_at w16) (to_le_bytes w16) (λ k. nat_lt k (2 ^ 16)) reads_16 (number_at w16) (to_le_bytes w16) (λ k. nat_lt k (2 ^ 16)) reads_16 name.ReqRecon message.ReqRecon
-    (λ size q. refl) (λ size q a b. record { within = refl; ranged = both_so (nat_lt size (2 ^ 16)) (nat_lt q (2 ^ 16)) a b })
+    (λ size q. refl) (λ size q a b. record { within = refl; ranged = and_from (nat_lt size (2 ^ 16)) (nat_lt q (2 ^ 16)) a b })
 
 diff-said : (payload : List ℕ) (m : Message) → are_bytes payload ≡ true → diff_in payload ≡ Ok m → Says name.ReconcilDiff payload m
 unfolding diff_in frame_of is_within_limits is_in_range
 diff-said =
     two-said flag_at (λ b. flag_byte b ∷ []) (λ b. true) reads_flag (counted_items_at (number_at w32)) (λ asks. compact_size (length asks) ++ flat_map (to_le_bytes w32) asks)
     (λ asks. nat_le (length asks) LIST_LIMIT && list_all (λ k. nat_lt k (2 ^ 32)) asks) (counted_items_at-took (number_at w32) (to_le_bytes w32) (λ k. nat_lt k (2 ^ 32)) short-took) name.ReconcilDiff message.ReconcilDiff
-    (λ success asks. refl) (λ success asks a b. let tests = both_hold (nat_le (length asks) LIST_LIMIT) (list_all (λ k. nat_lt k (2 ^ 32)) asks) b in record { within = tests.0; ranged = tests.1 })
+    (λ success asks. refl) (λ success asks a b. let tests = and_parts (nat_le (length asks) LIST_LIMIT) (list_all (λ k. nat_lt k (2 ^ 32)) asks) b in record { within = tests.0; ranged = tests.1 })
 
 sketch-said : (payload : List ℕ) (m : Message) → are_bytes payload ≡ true → sketch_in payload ≡ Ok m → Says name.Sketch payload m
 unfolding sketch_in frame_of is_within_limits is_in_range
 sketch-said =
     one-said (counted_bytes_at LIST_LIMIT) counted_bytes (λ xs. nat_le (length xs) LIST_LIMIT && are_bytes xs) (λ c r bytes e. bytes-took LIST_LIMIT c r (lit< tt) bytes e) name.Sketch message.Sketch
-    (λ xs. refl) (λ xs h. let tests = both_hold (nat_le (length xs) LIST_LIMIT) (are_bytes xs) h in record { within = tests.0; ranged = tests.1 })
+    (λ xs. refl) (λ xs h. let tests = and_parts (nat_le (length xs) LIST_LIMIT) (are_bytes xs) h in record { within = tests.0; ranged = tests.1 })
 
 number-said : (n : Name) (made : ℕ → Message) → ((k : ℕ) → named_frame n (to_le_bytes w64 k) ≡ frame_of (made k)) → ((k : ℕ) → nat_lt k (2 ^ 64) ≡ true → IsSent (made k))
     → (payload : List ℕ) (m : Message) → are_bytes payload ≡ true → number_in made payload ≡ Ok m → Says n payload m
@@ -174,17 +175,17 @@ version-said payload m bytes e =
       height = height.0;
       relay = relay.0;
     } in
-    let ranges = both_so _ _ (both_so _ _ (both_so _ _ (both_so _ _ (both_so _ _ (both_so _ _ (both_so _ _ (both_so _ _
-    t1.1 (le_holds (suc services.0) (2 ^ 64) t2.below)) t3.1) t4.1) t5.1) (le_holds (suc nonce.0) (2 ^ 64) t6.below))
+    let ranges = and_from _ _ (and_from _ _ (and_from _ _ (and_from _ _ (and_from _ _ (and_from _ _ (and_from _ _ (and_from _ _
+    t1.1 (le-leb (suc services.0) (2 ^ 64) t2.below)) t3.1) t4.1) t5.1) (le-leb (suc nonce.0) (2 ^ 64) t6.below))
     (bytes_split (compact_size (length agent.0)) agent.0 t7.0.front).1) t8.1) t9.1 in
-    at_end name.Version payload (version_payload v) (message.Version v) m relay.1 u9 s9.2 refl (le_holds (length agent.0) AGENT_LIMIT t7.1) ranges
+    at_end name.Version payload (version_payload v) (message.Version v) m relay.1 u9 s9.2 refl (le-leb (length agent.0) AGENT_LIMIT t7.1) ranges
 
 tx-said : (payload : List ℕ) (m : Message) → are_bytes payload ≡ true → length payload ≤ PAYLOAD_LIMIT → tx_in payload ≡ Ok m → Says name.Tx payload m
 unfolding frame_of is_within_limits is_in_range
 tx-said [] m bytes low e = absurd (cc)
 tx-said (b ∷ rest) m bytes low e =
     subst (Says name.Tx (b ∷ rest)) (from_ok (message.Tx (b ∷ rest)) m (Ok (message.Tx (b ∷ rest))) refl e)
-    (record { frame = refl; within = both_so (nat_lt 0 (suc (length rest))) (nat_le (suc (length rest)) PAYLOAD_LIMIT) (le_holds 1 (suc (length rest)) (omega arith)) (le_holds (suc (length rest)) PAYLOAD_LIMIT low); ranged = bytes })
+    (record { frame = refl; within = and_from (nat_lt 0 (suc (length rest))) (nat_le (suc (length rest)) PAYLOAD_LIMIT) (le-leb 1 (suc (length rest)) (omega arith)) (le-leb (suc (length rest)) PAYLOAD_LIMIT low); ranged = bytes })
 
 -- ---- all
 
@@ -198,9 +199,9 @@ named_frame-said name.ReqRecon payload m bytes low e = request-said payload m by
 named_frame-said name.Sketch payload m bytes low e = sketch-said payload m bytes e
 named_frame-said name.ReqSketchExt payload m bytes low e = bare name.ReqSketchExt payload message.ReqSketchExt m bytes e refl refl refl
 named_frame-said name.ReconcilDiff payload m bytes low e = diff-said payload m bytes e
-named_frame-said name.Inv payload m bytes low e = inventory-said name.Inv message.Inv (λ es. refl) (λ es h. let tests = both_hold (nat_le (length es) LIST_LIMIT) (list_all is_entry es) h in record { within = tests.0; ranged = tests.1 }) payload m bytes e
-named_frame-said name.GetData payload m bytes low e = inventory-said name.GetData message.GetData (λ es. refl) (λ es h. let tests = both_hold (nat_le (length es) LIST_LIMIT) (list_all is_entry es) h in record { within = tests.0; ranged = tests.1 }) payload m bytes e
-named_frame-said name.NotFound payload m bytes low e = inventory-said name.NotFound message.NotFound (λ es. refl) (λ es h. let tests = both_hold (nat_le (length es) LIST_LIMIT) (list_all is_entry es) h in record { within = tests.0; ranged = tests.1 }) payload m bytes e
+named_frame-said name.Inv payload m bytes low e = inventory-said name.Inv message.Inv (λ es. refl) (λ es h. let tests = and_parts (nat_le (length es) LIST_LIMIT) (list_all is_entry es) h in record { within = tests.0; ranged = tests.1 }) payload m bytes e
+named_frame-said name.GetData payload m bytes low e = inventory-said name.GetData message.GetData (λ es. refl) (λ es h. let tests = and_parts (nat_le (length es) LIST_LIMIT) (list_all is_entry es) h in record { within = tests.0; ranged = tests.1 }) payload m bytes e
+named_frame-said name.NotFound payload m bytes low e = inventory-said name.NotFound message.NotFound (λ es. refl) (λ es h. let tests = and_parts (nat_le (length es) LIST_LIMIT) (list_all is_entry es) h in record { within = tests.0; ranged = tests.1 }) payload m bytes e
 named_frame-said name.Tx payload m bytes low e = tx-said payload m bytes low e
 named_frame-said name.Ping payload m bytes low e = number-said name.Ping message.Ping (λ k. refl) (λ k h. record { within = refl; ranged = h }) payload m bytes e
 named_frame-said name.Pong payload m bytes low e = number-said name.Pong message.Pong (λ k. refl) (λ k h. record { within = refl; ranged = h }) payload m bytes e
@@ -227,7 +228,7 @@ said_by (Some n) f m h sound e =
     record { sent = record { within = says.within; ranged = says.ranged }; frame = ap (λ c. record { command = c; payload = f.payload }) (sym command) ∙ says.frame }
 said_by None f m h sound e =
     let known = ap (λ (o : Option Name). not (is_some o)) h in
-    let within = both_so (is_command f.command && not (is_some (name_at f.command))) (nat_le (length f.payload) PAYLOAD_LIMIT) (both_so (is_command f.command) (not (is_some (name_at f.command))) sound.command known) (le_holds (length f.payload) PAYLOAD_LIMIT sound.within) in
+    let within = and_from (is_command f.command && not (is_some (name_at f.command))) (nat_le (length f.payload) PAYLOAD_LIMIT) (and_from (is_command f.command) (not (is_some (name_at f.command))) sound.command known) (le-leb (length f.payload) PAYLOAD_LIMIT sound.within) in
     let other : IsFrameOf f (message.Other f.command f.payload) = record { sent = record { within = within; ranged = sound.bytes }; frame = refl } in
     subst (IsFrameOf f) (one_ok (message.Other f.command f.payload) m e) other
   where

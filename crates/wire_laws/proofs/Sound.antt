@@ -2,9 +2,9 @@
 use Rattle.std.proofs.Common.{◌≡◌, ℕ, zero, suc, ◌+◌, ◌*◌, ◌/◌, ◌%◌, ◌^◌, ◌<◌, ◌≤◌, ◌==◌, ◌&&◌, Bool, true, false, not, is_some, List, [], ◌∷◌, ◌++◌, Option, Some, None, length, nat_lt, nat_le, flat_map, refl, sym, subst, arith, mod-lt, lit<, lit≤, if◌then◌else◌}
 use Rattle.std.specs.List.{list_all}
 use Rattle.std.specs.Int.{Width, w16, w32, w64, to_le_bytes, bytes_low_first, byte_at, byte_len, cast_unsigned}
-use Rattle.std.proofs.lemmas.Bool.{ltb-true, leb-true}
+use Rattle.std.proofs.lemmas.Bool.{ltb-true, leb-true, and_from, and_parts, le-leb}
 use Rattle.std.proofs.lemmas.List.{length-append}
-use Rattle.id_rules.specs.Bytes.{are_bytes, are_bytes_of, fits_signed, is_optional_byte}
+use Rattle.id_rules.specs.Bytes.{are_bytes, are_bytes_of, is_optional_byte}
 use Rattle.wire_rules.specs.Commands.{word_of, is_filled, command_of, is_command, name_at}
 use Rattle.wire_rules.specs.Layout.{compact_size, counted_bytes, diff_payload, entry_bytes, flag_byte, frame_of, inventory, named_frame, optional_byte, signed_bytes, version_payload}
 use Rattle.wire_rules.specs.Limits.{IsFrame, IsMessage, is_in_range, is_entry, is_within_limits}
@@ -15,18 +15,19 @@ use Rattle.wire_rules.specs.declared.message.Message.TheVariants as message
 use Rattle.wire_rules.specs.declared.message.VersionMsg.{VersionMsg}
 use Rattle.wire_rules.specs.declared.name.Name.{Name}
 use Rattle.wire_rules.specs.declared.name.Name.TheVariants as name
-use Rattle.wire_laws.proofs.Parts.{VersionRanges, both_hold, both_so, bytes_join, le_holds, of_length, version_ranges}
+use Rattle.id_rules.proofs.Bytes.{bytes_join}
+use Rattle.wire_laws.proofs.Parts.{VersionRanges, of_length, version_ranges}
 use Rattle.wire_laws.proofs.Readers.{two_bytes}
 
 -- ---- bytes
 
 pub byte_small : (i n : ℕ) → nat_lt (byte_at i n) (2 ^ 8) ≡ true
-byte_small zero n = le_holds (suc (n % 256)) 256 (mod-lt n (lit< tt))
-byte_small (suc i) n = le_holds (suc (n / 256 ^ suc i % 256)) 256 (mod-lt (n / 256 ^ suc i) (lit< tt))
+byte_small zero n = le-leb (suc (n % 256)) 256 (mod-lt n (lit< tt))
+byte_small (suc i) n = le-leb (suc (n / 256 ^ suc i % 256)) 256 (mod-lt (n / 256 ^ suc i) (lit< tt))
 
 low_bytes : (i k n : ℕ) → are_bytes (bytes_low_first i k n) ≡ true
 low_bytes i zero n = refl
-low_bytes i (suc k) n = both_so (nat_lt (byte_at i n) (2 ^ 8)) (are_bytes (bytes_low_first (suc i) k n)) (byte_small i n) (low_bytes (suc i) k n)
+low_bytes i (suc k) n = and_from (nat_lt (byte_at i n) (2 ^ 8)) (are_bytes (bytes_low_first (suc i) k n)) (byte_small i n) (low_bytes (suc i) k n)
 
 number_bytes : (w : Width) (n : ℕ) → are_bytes (to_le_bytes w n) ≡ true
 number_bytes w n = low_bytes 0 (byte_len w) n
@@ -37,12 +38,12 @@ module _ {A : Type 0} (spell : A → List ℕ) (test : A → Bool) (bytes : (x :
   items_bytes : (xs : List A) → list_all test xs ≡ true → are_bytes (flat_map spell xs) ≡ true
   items_bytes [] h = refl
   items_bytes (x ∷ xs) h =
-      let tests = both_hold (test x) (list_all test xs) h in bytes_join (spell x) (flat_map spell xs) (bytes x tests.0) (items_bytes xs tests.1)
+      let tests = and_parts (test x) (list_all test xs) h in bytes_join (spell x) (flat_map spell xs) (bytes x tests.0) (items_bytes xs tests.1)
 
   items_length : (xs : List A) → list_all test xs ≡ true → length (flat_map spell xs) ≤ 36 * length xs
   items_length [] h = lit≤ tt
   items_length (x ∷ xs) h =
-      let tests = both_hold (test x) (list_all test xs) h in
+      let tests = and_parts (test x) (list_all test xs) h in
       let one = short x tests.0 in
       let more = items_length xs tests.1 in
       let sum = length-append (spell x) (flat_map spell xs) in
@@ -57,10 +58,10 @@ short_length n h = lit≤ tt
 
 module _ (e : InvEntry) (h : is_entry e ≡ true) where
   id_test : are_bytes_of 32 e.id.0 ≡ true
-  id_test = (both_hold (nat_lt e.kind (2 ^ 32)) (are_bytes_of 32 e.id.0) h).1
+  id_test = (and_parts (nat_lt e.kind (2 ^ 32)) (are_bytes_of 32 e.id.0) h).1
 
   one_entry_bytes : are_bytes (entry_bytes e) ≡ true
-  one_entry_bytes = bytes_join (to_le_bytes w32 e.kind) e.id.0 (number_bytes w32 e.kind) (both_hold (length e.id.0 == 32) (are_bytes e.id.0) id_test).1
+  one_entry_bytes = bytes_join (to_le_bytes w32 e.kind) e.id.0 (number_bytes w32 e.kind) (and_parts (length e.id.0 == 32) (are_bytes e.id.0) id_test).1
 
   one_entry_length : length (entry_bytes e) ≤ 36
   one_entry_length =
@@ -70,7 +71,7 @@ module _ (e : InvEntry) (h : is_entry e ≡ true) where
 -- ---- counts
 
 count_bytes_by : (small : Bool) (n : ℕ) → nat_lt n 0xFD ≡ small → are_bytes (if small then n ∷ [] else 0xFD ∷ to_le_bytes w16 n) ≡ true
-count_bytes_by true n h = both_so (nat_lt n (2 ^ 8)) true (le_holds (suc n) (2 ^ 8) (let below = ltb-true n 0xFD h in omega arith)) refl
+count_bytes_by true n h = and_from (nat_lt n (2 ^ 8)) true (le-leb (suc n) (2 ^ 8) (let below = ltb-true n 0xFD h in omega arith)) refl
 count_bytes_by false n h = number_bytes w16 n
 
 count_length_by : (small : Bool) (n : ℕ) → length (if small then n ∷ [] else 0xFD ∷ to_le_bytes w16 n) ≤ 3
@@ -138,11 +139,11 @@ fits-diff success asks within h =
 
 fits-optional : (b : Option ℕ) → is_optional_byte b ≡ true → Fits 1 (optional_byte b)
 fits-optional None h = record { within = lit≤ tt; bytes = refl }
-fits-optional (Some b) h = record { within = lit≤ tt; bytes = both_so (nat_lt b (2 ^ 8)) true h refl }
+fits-optional (Some b) h = record { within = lit≤ tt; bytes = and_from (nat_lt b (2 ^ 8)) true h refl }
 
 fits-field : (n : ℕ) (xs : List ℕ) → are_bytes_of n xs ≡ true → Fits n xs
 fits-field n xs h =
-    record { within = let e = of_length n xs h in omega arith; bytes = (both_hold (length xs == n) (are_bytes xs) h).1 }
+    record { within = let e = of_length n xs h in omega arith; bytes = (and_parts (length xs == n) (are_bytes xs) h).1 }
 
 fits-version : (v : VersionMsg) → length v.agent ≤ AGENT_LIMIT → VersionRanges v → Fits PAYLOAD_LIMIT (version_payload v)
 fits-version v within ranges =
@@ -199,13 +200,13 @@ frame_by (message.Inv es) w r = frame_with name.Inv (inventory es) (fits-invento
 frame_by (message.GetData es) w r = frame_with name.GetData (inventory es) (fits-inventory es (leb-true (length es) LIST_LIMIT w) r)
 frame_by (message.NotFound es) w r = frame_with name.NotFound (inventory es) (fits-inventory es (leb-true (length es) LIST_LIMIT w) r)
 frame_by (message.Tx tx) w r =
-    frame_with name.Tx tx (record { within = leb-true (length tx) PAYLOAD_LIMIT (both_hold (nat_lt 0 (length tx)) (nat_le (length tx) PAYLOAD_LIMIT) w).1; bytes = r })
+    frame_with name.Tx tx (record { within = leb-true (length tx) PAYLOAD_LIMIT (and_parts (nat_lt 0 (length tx)) (nat_le (length tx) PAYLOAD_LIMIT) w).1; bytes = r })
 frame_by (message.Ping n) w r = frame_with name.Ping (to_le_bytes w64 n) (fits-more 8 PAYLOAD_LIMIT _ (lit≤ tt) (fits-64 n))
 frame_by (message.Pong n) w r = frame_with name.Pong (to_le_bytes w64 n) (fits-more 8 PAYLOAD_LIMIT _ (lit≤ tt) (fits-64 n))
 frame_by (message.Other command payload) w r =
-    let tests = both_hold (is_command command && not (is_some (name_at command))) (nat_le (length payload) PAYLOAD_LIMIT) w in
+    let tests = and_parts (is_command command && not (is_some (name_at command))) (nat_le (length payload) PAYLOAD_LIMIT) w in
     record {
-      command = (both_hold (is_command command) (not (is_some (name_at command))) tests.0).0;
+      command = (and_parts (is_command command) (not (is_some (name_at command))) tests.0).0;
       within = leb-true (length payload) PAYLOAD_LIMIT tests.1;
       bytes = r;
     }

@@ -1,13 +1,13 @@
 -- What readers of fields have taken: the bytes that they left out are those that spell what they say.
 use Rattle.std.proofs.Common.{◌≡◌, ℕ, zero, suc, ◌+◌, ◌^◌, ◌<◌, Bool, true, false, List, [], ◌∷◌, ◌++◌, Result, Ok, Err, length, take, drop, get_or, nat_lt, refl, sym, subst, arith, lit<, if◌then◌else◌}
 use Rattle.std.specs.Int.{Width, w8, w16, w32, w64, byte_len, to_le_bytes, from_le_bytes}
-use Rattle.std.proofs.lemmas.Bool.{ltb-true, leb-false}
+use Rattle.std.proofs.lemmas.Bool.{ltb-true, leb-false, and_parts, le-leb}
 use Rattle.std.proofs.lemmas.List.{take-append-drop, length-take-le}
 use Rattle.std.proofs.lemmas.Nat.{le_bytes_2, le_bytes_4, le_bytes_8}
 use Rattle.id_rules.specs.Bytes.{are_bytes}
 use Rattle.wire_rules.specs.Reading.{FieldFault, Cursor, ◌>>=◌, fault_at, bytes_at, number_at}
 use Rattle.wire_rules.specs.declared.faults.PayloadKind.TheVariants as fault
-use Rattle.wire_laws.proofs.Parts.{both_hold, bytes_split, le_holds}
+use Rattle.id_rules.proofs.Bytes.{bytes_split}
 use Rattle.wire_laws.proofs.Readers.{cursor}
 
 -- where two steps in a row say something, the first does, and the second behind it
@@ -45,8 +45,8 @@ bytes_at-took n c r bytes e = took_by (nat_lt (length c.rest) n) n c r refl byte
 
 pub small_byte : (xs : List ℕ) (i : ℕ) → are_bytes xs ≡ true → get_or xs i 0 < 256
 small_byte [] i h = lit< tt
-small_byte (x ∷ xs) zero h = ltb-true x (2 ^ 8) (both_hold (nat_lt x (2 ^ 8)) (are_bytes xs) h).0
-small_byte (x ∷ xs) (suc i) h = small_byte xs i (both_hold (nat_lt x (2 ^ 8)) (are_bytes xs) h).1
+small_byte (x ∷ xs) zero h = ltb-true x (2 ^ 8) (and_parts (nat_lt x (2 ^ 8)) (are_bytes xs) h).0
+small_byte (x ∷ xs) (suc i) h = small_byte xs i (and_parts (nat_lt x (2 ^ 8)) (are_bytes xs) h).1
 
 bound_1 : (xs : List ℕ) → are_bytes xs ≡ true → from_le_bytes w8 xs < 2 ^ 8
 bound_1 xs h = small_byte xs 0 h
@@ -92,7 +92,7 @@ number_at-took_8 c r bytes e = number_took w64 (2 ^ 64) (λ xs size h. le_bytes_
 
 -- the same by a test
 pub number-tested : {w : Width} {bound : ℕ} {c : Cursor} {r : ℕ × Cursor} → TookNumber w bound c r → Took c (to_le_bytes w r.0) r.1 × (nat_lt r.0 bound ≡ true)
-number-tested {bound = bound} {r = r} n = (n.took, le_holds (suc r.0) bound n.below)
+number-tested {bound = bound} {r = r} n = (n.took, le-leb (suc r.0) bound n.below)
 
 -- one byte
 one_byte : (xs : List ℕ) → length xs ≡ 1 → xs ≡ from_le_bytes w8 xs ∷ []

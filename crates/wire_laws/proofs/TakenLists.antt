@@ -2,7 +2,7 @@
 use Rattle.std.proofs.Common.{◌≡◌, ℕ, zero, suc, ◌^◌, ◌<◌, ◌≤◌, ◌==◌, Bool, true, false, List, [], ◌∷◌, ◌++◌, ℤ, pos, negsuc, FitsSigned, append-nil, Option, Some, None, Ok, length, nat_lt, nat_le, ◌&&◌, flat_map, refl, sym, ap, subst, ◌∙◌, arith, lit<, if◌then◌else◌, append_assoc}
 use Rattle.std.specs.List.{list_all}
 use Rattle.std.specs.Int.{Width, w8, w16, w32, w64, to_le_bytes, cast_signed}
-use Rattle.std.proofs.lemmas.Bool.{eqb-true, eqb-false, eq-eqb, leb-false, lt-leb}
+use Rattle.std.proofs.lemmas.Bool.{eqb-true, eqb-false, eq-eqb, leb-false, lt-leb, and_from, le-leb}
 use Rattle.std.proofs.lemmas.Int.{of_z-to_z}
 use Rattle.std.proofs.Math.Facts.{sfits_to_z}
 use Rattle.id_rules.specs.Bytes.{are_bytes, are_bytes_of, fits_signed, is_optional_byte}
@@ -13,7 +13,7 @@ use Rattle.wire_rules.specs.declared.faults.PayloadKind.TheVariants as fault
 use Rattle.wire_rules.specs.declared.limits.TheConstants.{LIST_LIMIT}
 use Rattle.wire_rules.specs.declared.message.InvEntry.{InvEntry}
 use Rattle.wire_rules.specs.declared.message.Message.{Message}
-use Rattle.wire_laws.proofs.Parts.{both_so, bytes_join, bytes_split, le_holds}
+use Rattle.id_rules.proofs.Bytes.{bytes_join, bytes_split}
 use Rattle.wire_laws.proofs.Readers.{two_bytes}
 use Rattle.wire_laws.proofs.Taken.{Took, both_said, bytes_at-took, byte_took, from_ok, number-tested, number_at-took_2, number_at-took_4, number_at-took_8}
 
@@ -67,7 +67,7 @@ mark_by false false false at first c n ha hb hd low bytes small e =
     let below : first < 0xFD = omega (arith, eqb-false first 0xFD ha, eqb-false first 0xFE hb, eqb-false first 0xFF hd, low) in
     subst (λ (m : ℕ × Cursor). (xs : List ℕ) × (first ∷ xs ≡ compact_size m.0) × Took c xs m.1) same (
       [],
-      sym (two_bytes first (omega (arith, low)) ∙ ap (λ t. if t then first ∷ [] else 0xFD ∷ to_le_bytes w16 first) (le_holds (suc first) 0xFD below)),
+      sym (two_bytes first (omega (arith, low)) ∙ ap (λ t. if t then first ∷ [] else 0xFD ∷ to_le_bytes w16 first) (le-leb (suc first) 0xFD below)),
       record { whole = refl; front = refl; left = bytes },
     )
 
@@ -100,7 +100,7 @@ pub bytes-took : (limit : ℕ) (c : Cursor) (r : List ℕ × Cursor) → limit <
     → Took c (counted_bytes r.0) r.1 × ((nat_le (length r.0) limit && are_bytes r.0) ≡ true)
 bytes-took limit c r low bytes e =
     let taken = counted_bytes-took limit c r low bytes e in
-    (taken.0, both_so (nat_le (length r.0) limit) (are_bytes r.0) (le_holds (length r.0) limit taken.1) (bytes_split (compact_size (length r.0)) r.0 taken.0.front).1)
+    (taken.0, and_from (nat_le (length r.0) limit) (are_bytes r.0) (le-leb (length r.0) limit taken.1) (bytes_split (compact_size (length r.0)) r.0 taken.0.front).1)
 
 -- ---- items in a row
 
@@ -124,7 +124,7 @@ module _ {A : Type 0} (item : Cursor → FieldReading A) (spell : A → List ℕ
       subst (TookItems (suc n) c) (from_ok (x.0 ∷ more.0.0, more.0.1) r (Ok (x.0 ∷ more.0.0, more.0.1)) refl more.2) (record {
         count = ap suc rest.count;
         took = took_both c x.1 more.0.1 (spell x.0) (flat_map spell more.0.0) one.0 rest.took;
-        tests = both_so (test x.0) (list_all test more.0.0) one.1 rest.tests;
+        tests = and_from (test x.0) (list_all test more.0.0) one.1 rest.tests;
       })
 
   -- items behind their count
@@ -135,7 +135,7 @@ module _ {A : Type 0} (item : Cursor → FieldReading A) (spell : A → List ℕ
       let count = count_at-took LIST_LIMIT c said.0 (lit< tt) bytes said.1 in
       let items = items_at-took said.0.0 said.0.1 r count.0.left said.2 in (
         took_both c said.0.1 r.1 (compact_size (length r.0)) (flat_map spell r.0) (subst (λ n. Took c (compact_size n) said.0.1) (sym items.count) count.0) items.took,
-        both_so (nat_le (length r.0) LIST_LIMIT) (list_all test r.0) (le_holds (length r.0) LIST_LIMIT (subst (λ n. n ≤ LIST_LIMIT) (sym items.count) count.1)) items.tests,
+        and_from (nat_le (length r.0) LIST_LIMIT) (list_all test r.0) (le-leb (length r.0) LIST_LIMIT (subst (λ n. n ≤ LIST_LIMIT) (sym items.count) count.1)) items.tests,
       )
 
 -- a short id
@@ -145,7 +145,7 @@ short-took c r bytes e = number-tested (number_at-took_4 c r bytes e)
 -- so many bytes
 pub field-took : (n : ℕ) (c : Cursor) (r : List ℕ × Cursor) → are_bytes c.rest ≡ true → bytes_at n c ≡ Ok r → Took c r.0 r.1 × (are_bytes_of n r.0 ≡ true)
 field-took n c r bytes e =
-    let taken = bytes_at-took n c r bytes e in (taken.0, both_so (length r.0 == n) (are_bytes r.0) (eq-eqb (length r.0) n taken.1) taken.0.front)
+    let taken = bytes_at-took n c r bytes e in (taken.0, and_from (length r.0 == n) (are_bytes r.0) (eq-eqb (length r.0) n taken.1) taken.0.front)
 
 -- an entry
 pub entry-took : (c : Cursor) (r : InvEntry × Cursor) → are_bytes c.rest ≡ true → entry_at c ≡ Ok r → Took c (entry_bytes r.0) r.1 × (is_entry r.0 ≡ true)
@@ -160,7 +160,7 @@ entry-took c r bytes e =
     let made : InvEntry × Cursor = (record { kind = kind.0; id = record { 0 = id.0 } }, id.1) in
     subst (λ (x : InvEntry × Cursor). Took c (entry_bytes x.0) x.1 × (is_entry x.0 ≡ true)) (from_ok made r (Ok made) refl next.2) (
       took_both c kind.1 id.1 (to_le_bytes w32 kind.0) id.0 number.took field.0,
-      both_so (nat_lt kind.0 (2 ^ 32)) (are_bytes_of 32 id.0) (le_holds (suc kind.0) (2 ^ 32) number.below) field.1,
+      and_from (nat_lt kind.0 (2 ^ 32)) (are_bytes_of 32 id.0) (le-leb (suc kind.0) (2 ^ 32) number.below) field.1,
     )
 
 -- ---- flags, optional bytes, signed numbers
@@ -194,7 +194,7 @@ optional_by false c r bytes e =
     let said = both_said (number_at w8 c) (λ b. Ok (Some b.0, b.1)) r e in
     let byte = byte_took c said.0 bytes said.1 in
     let made : Option ℕ × Cursor = (Some said.0.0, said.0.1) in
-    subst (λ (s : Option ℕ × Cursor). Took c (optional_byte s.0) s.1 × (is_optional_byte s.0 ≡ true)) (from_ok made r (Ok made) refl said.2) (byte.0, le_holds (suc said.0.0) (2 ^ 8) byte.1)
+    subst (λ (s : Option ℕ × Cursor). Took c (optional_byte s.0) s.1 × (is_optional_byte s.0 ≡ true)) (from_ok made r (Ok made) refl said.2) (byte.0, le-leb (suc said.0.0) (2 ^ 8) byte.1)
 
 -- a byte that may be absent
 pub optional-took : (c : Cursor) (r : Option ℕ × Cursor) → are_bytes c.rest ≡ true → optional_at c ≡ Ok r → Took c (optional_byte r.0) r.1 × (is_optional_byte r.0 ≡ true)
@@ -202,12 +202,12 @@ unfolding optional_at
 optional-took c r bytes e = optional_by (length c.rest == 0) c r bytes e
 
 fits_31 : (z : ℤ) → FitsSigned w32 z → fits_signed 31 z ≡ true
-fits_31 (pos k) h = le_holds (suc k) (2 ^ 31) h.sfits
-fits_31 (negsuc k) h = le_holds (suc k) (2 ^ 31) h.sfits
+fits_31 (pos k) h = le-leb (suc k) (2 ^ 31) h.sfits
+fits_31 (negsuc k) h = le-leb (suc k) (2 ^ 31) h.sfits
 
 fits_63 : (z : ℤ) → FitsSigned w64 z → fits_signed 63 z ≡ true
-fits_63 (pos k) h = le_holds (suc k) (2 ^ 63) h.sfits
-fits_63 (negsuc k) h = le_holds (suc k) (2 ^ 63) h.sfits
+fits_63 (pos k) h = le-leb (suc k) (2 ^ 63) h.sfits
+fits_63 (negsuc k) h = le-leb (suc k) (2 ^ 63) h.sfits
 
 -- signed numbers
 pub signed_at-took_4 : (c : Cursor) (r : ℤ × Cursor) → are_bytes c.rest ≡ true → signed_at w32 c ≡ Ok r → Took c (signed_bytes w32 r.0) r.1 × (fits_signed 31 r.0 ≡ true)

@@ -1,7 +1,7 @@
 -- Which frames and messages may be sent.
 use Rattle.std.specs.Prelude.{◌^◌, ◌≤◌, ◌&&◌, nat_lt, nat_le, not, is_some, Bool, true, IsTrue, length}
 use Rattle.std.specs.List.{list_all}
-use Rattle.id_rules.specs.Bytes.{are_bytes, are_bytes_of, is_optional_byte, fits_signed, is_tx_length}
+use Rattle.id_rules.specs.Bytes.{are_bytes, are_bytes_of, is_id, is_optional_byte, fits_signed, is_tx_length}
 use Rattle.wire_rules.specs.Commands.{is_command, name_at}
 use Rattle.wire_rules.specs.declared.limits.TheConstants.{PAYLOAD_LIMIT, LIST_LIMIT, AGENT_LIMIT}
 use Rattle.wire_rules.specs.declared.frame.Frame.{Frame}
@@ -25,7 +25,7 @@ is_within_limits other = true
 -- the ranges that the types of a message's fields have
 
 abbrev pub is_entry : InvEntry → Bool
-is_entry e = nat_lt e.kind (2 ^ 32) && are_bytes_of 32 e.id.0
+is_entry e = nat_lt e.kind (2 ^ 32) && is_id e.id
 
 abbrev pub is_version_in_range : VersionMsg → Bool
 is_version_in_range v =

@@ -1,4 +1,5 @@
 -- Each clause is a lemma, or a part of one.
+use Rattle.pool_laws.proofs.Insertions.{tx-transaction_of}
 use Rattle.node_invariants.proofs.Joined.{on_message-node, on_messages-sound, on_piece-sound, on_addition-node, on_start-node}
 use Rattle.node_invariants.proofs.nodes_stay_nodes.Goals as goal
 
@@ -12,7 +13,7 @@ pub returns-clause-by_piece : goal.returns-clause-by_piece
 returns-clause-by_piece c = λ s piece h bytes. (on_piece-sound s piece h bytes).node
 
 pub returns-clause-by_addition : goal.returns-clause-by_addition
-returns-clause-by_addition c = λ s tx h sound. on_addition-node s h tx sound
+returns-clause-by_addition c = λ s tx h may. on_addition-node s h tx (tx-transaction_of tx may)
 
 pub returns-clause-by_round : goal.returns-clause-by_round
 returns-clause-by_round c = on_start-node

@@ -1,4 +1,5 @@
 -- Each clause is a lemma.
+use Rattle.pool_laws.proofs.Insertions.{tx-transaction_of}
 use Rattle.node_invariants.proofs.Stores.{opening-store, on_message-store, on_addition-store, on_start-store}
 use Rattle.node_invariants.proofs.stores_are_kept.Goals as goal
 
@@ -9,7 +10,7 @@ pub returns-clause-by_message : goal.returns-clause-by_message
 returns-clause-by_message c = on_message-store
 
 pub returns-clause-by_addition : goal.returns-clause-by_addition
-returns-clause-by_addition c = on_addition-store
+returns-clause-by_addition c = λ s tx h may. on_addition-store s tx h (tx-transaction_of tx may)
 
 pub returns-clause-by_round : goal.returns-clause-by_round
 returns-clause-by_round c = on_start-store
