@@ -27,11 +27,11 @@ short_exchanged : ids_text 2 1 (hello_id ∷ []) ≡ line (hello ++ codes " d977
 unfolding working
 short_exchanged = refl
 
-few_digits : ids_in (codes "9595") ≡ Err (record { offset = 1; kind = kind.DigitCount })
+few_digits : ids_in (codes "9595") ≡ Err (record { place = 1; kind = kind.DigitCount })
 unfolding working
 few_digits = refl
 
-bad_digit : ids_in (codes "x595c9df90075148eb06860365df33584b75bff782a510c6cd4883a419833d50") ≡ Err (record { offset = 1; kind = kind.BadDigit })
+bad_digit : ids_in (codes "x595c9df90075148eb06860365df33584b75bff782a510c6cd4883a419833d50") ≡ Err (record { place = 1; kind = kind.BadDigit })
 unfolding working
 bad_digit = refl
 
@@ -55,7 +55,7 @@ packed : pack_bytes (message.Tx (codes "hello") ∷ []) ≡ tx_frame
 unfolding working
 packed = refl
 
-packs_nothing : shown_in (codes "verack" ++ 10 ∷ codes "tx") ≡ Err (record { offset = 2; kind = kind.Form })
+packs_nothing : shown_in (codes "verack" ++ 10 ∷ codes "tx") ≡ Err (record { place = 2; kind = kind.Form })
 unfolding working
 packs_nothing = refl
 
