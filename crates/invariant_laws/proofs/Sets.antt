@@ -25,8 +25,8 @@ use Rattle.node_rules.specs.Steps.{on_message, on_start}
 use Rattle.node_rules.specs.Turns.{after_move}
 use Rattle.node_rules.specs.declared.config.Config.{Config}
 use Rattle.node_laws.proofs.NewIds.{new_kept}
-use Rattle.node_invariants.proofs.Early.{greeted-early, early-wants, early-snapshot}
-use Rattle.node_invariants.proofs.Rows.{EachRow, on_message-rows, on_addition-rows, on_start-rows}
+use Rattle.invariant_laws.proofs.Early.{greeted-early, early-wants, early-snapshot}
+use Rattle.invariant_laws.proofs.Rows.{EachRow, on_message-rows, on_addition-rows, on_start-rows}
 
 -- ---- members
 

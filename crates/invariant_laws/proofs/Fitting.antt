@@ -11,8 +11,8 @@ use Rattle.id_rules.proofs.Lists.{all_filter, filter_few}
 use Rattle.pool_laws.proofs.PoolIds.{ids_within, is_in_pool-is_listed}
 use Rattle.pool_laws.proofs.Ids.{wtxid-bytes}
 use Rattle.node_rules.specs.Invariant.{IsMember, AreMembers}
-use Rattle.node_invariants.proofs.Sets.{pooled_ids}
-use Rattle.node_invariants.proofs.Stores.{IsId}
+use Rattle.invariant_laws.proofs.Sets.{pooled_ids}
+use Rattle.invariant_laws.proofs.Stores.{IsId}
 
 -- members that may be announced
 pub record IsAnnounceable (ms : List Member) : Type 0 where

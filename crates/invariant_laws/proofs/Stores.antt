@@ -24,8 +24,8 @@ use Rattle.node_rules.specs.Steps.{on_message, on_start}
 use Rattle.node_rules.specs.declared.config.Config.{Config}
 use Rattle.node_rules.specs.declared.config.Role.{Role}
 use Rattle.node_laws.proofs.NewIds.{new_distinct, new_kept, new_unknown}
-use Rattle.node_invariants.proofs.Rooms.{lack, lack_append, lack_grow, lack_filter, lack_taken}
-use Rattle.node_invariants.proofs.Rows.{EachRow, IsAddable, IsNews, on_message-rows, on_addition-rows, on_start-rows}
+use Rattle.invariant_laws.proofs.Rooms.{lack, lack_append, lack_grow, lack_filter, lack_taken}
+use Rattle.invariant_laws.proofs.Rows.{EachRow, IsAddable, IsNews, on_message-rows, on_addition-rows, on_start-rows}
 
 abbrev pub IsId : Hash32 → Type 0
 IsId id = is_id id ≡ true

@@ -26,13 +26,13 @@ use Rattle.node_rules.specs.declared.end.End.{End}
 use Rattle.node_rules.specs.declared.end.End.TheVariants as end
 use Rattle.node_laws.specs.Later.{IsLater}
 use Rattle.node_laws.proofs.LaterSteps.{on_message-later, on_addition-later, on_start-later}
-use Rattle.node_invariants.proofs.Bounds.{on_message-bounded, on_addition-bounded, on_start-bounded, opening-bounded}
-use Rattle.node_invariants.proofs.Conversing.{on_message-conversing, on_addition-conversing, on_start-conversing, opening-conversing, beside-conversing}
-use Rattle.node_invariants.proofs.Reports.{on_message-reports, on_addition-reports, on_start-reports}
-use Rattle.node_invariants.proofs.Rows.{EachRow, on_message-rows, on_addition-rows, on_start-rows}
-use Rattle.node_invariants.proofs.Sending.{on_message-sendable}
-use Rattle.node_invariants.proofs.Sets.{on_message-setup, on_addition-setup, on_start-setup, opening-setup}
-use Rattle.node_invariants.proofs.Stores.{on_message-store, on_addition-store, on_start-store, opening-store}
+use Rattle.invariant_laws.proofs.Bounds.{on_message-bounded, on_addition-bounded, on_start-bounded, opening-bounded}
+use Rattle.invariant_laws.proofs.Conversing.{on_message-conversing, on_addition-conversing, on_start-conversing, opening-conversing, beside-conversing}
+use Rattle.invariant_laws.proofs.Reports.{on_message-reports, on_addition-reports, on_start-reports}
+use Rattle.invariant_laws.proofs.Rows.{EachRow, on_message-rows, on_addition-rows, on_start-rows}
+use Rattle.invariant_laws.proofs.Sending.{on_message-sendable}
+use Rattle.invariant_laws.proofs.Sets.{on_message-setup, on_addition-setup, on_start-setup, opening-setup}
+use Rattle.invariant_laws.proofs.Stores.{on_message-store, on_addition-store, on_start-store, opening-store}
 
 -- ---- what has been received
 

@@ -1,6 +1,6 @@
 -- Each clause is a part of a lemma.
-use Rattle.node_invariants.proofs.Joined.{on_messages-sound, on_piece-sound}
-use Rattle.node_invariants.proofs.answers_to_pieces_may_be_sent.Goals as goal
+use Rattle.invariant_laws.proofs.Joined.{on_messages-sound, on_piece-sound}
+use Rattle.invariant_laws.proofs.answers_to_pieces_may_be_sent.Goals as goal
 
 pub returns-clause-by_messages : goal.returns-clause-by_messages
 returns-clause-by_messages c = λ s ms h sound. (on_messages-sound s ms h sound).sendable

@@ -25,9 +25,9 @@ use Rattle.node_rules.specs.Turns.{inv_of, getdata_of, notfound_of, entry}
 use Rattle.node_rules.specs.declared.config.Config.{Config}
 use Rattle.node_rules.specs.declared.config.Role.{Role}
 use Rattle.node_rules.specs.declared.config.Role.TheVariants as role
-use Rattle.node_invariants.proofs.Fitting.{IsAnnounceable, ids_fit}
-use Rattle.node_invariants.proofs.Numbers.{sums_bytes}
-use Rattle.node_invariants.proofs.Stores.{IsId}
+use Rattle.invariant_laws.proofs.Fitting.{IsAnnounceable, ids_fit}
+use Rattle.invariant_laws.proofs.Numbers.{sums_bytes}
+use Rattle.invariant_laws.proofs.Stores.{IsId}
 
 -- ---- the handshake
 

@@ -1,7 +1,7 @@
 -- Each clause is a lemma.
 use Rattle.pool_laws.proofs.Insertions.{tx-transaction_of}
-use Rattle.node_invariants.proofs.Sending.{opening-sendable, on_message-sendable, on_addition-sendable, on_start-sendable}
-use Rattle.node_invariants.proofs.what_is_sent_may_be_sent.Goals as goal
+use Rattle.invariant_laws.proofs.Sending.{opening-sendable, on_message-sendable, on_addition-sendable, on_start-sendable}
+use Rattle.invariant_laws.proofs.what_is_sent_may_be_sent.Goals as goal
 
 pub returns-clause-opening : goal.returns-clause-opening
 returns-clause-opening c = opening-sendable

@@ -20,9 +20,9 @@ use Rattle.node_rules.specs.Steps.{on_message, on_start}
 use Rattle.node_rules.specs.declared.config.Config.{Config}
 use Rattle.node_rules.specs.declared.config.Role.{Role}
 use Rattle.node_rules.specs.declared.config.Role.TheVariants as role
-use Rattle.node_invariants.proofs.Early.{greeting-early, greeted-early}
-use Rattle.node_invariants.proofs.Rows.{EachRow, IsReconciling, on_message-rows, on_addition-rows, on_start-rows}
-use Rattle.node_invariants.proofs.Stages.{HasNoSketch, idle-rests, barrier-rests, behind-rests, phase_after_fetch-asked, phase_after_fetch-sent_extensions}
+use Rattle.invariant_laws.proofs.Early.{greeting-early, greeted-early}
+use Rattle.invariant_laws.proofs.Rows.{EachRow, IsReconciling, on_message-rows, on_addition-rows, on_start-rows}
+use Rattle.invariant_laws.proofs.Stages.{HasNoSketch, idle-rests, barrier-rests, behind-rests, phase_after_fetch-asked, phase_after_fetch-sent_extensions}
 
 -- ---- phases behind the handshake
 

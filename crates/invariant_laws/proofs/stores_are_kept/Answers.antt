@@ -1,7 +1,7 @@
 -- Each clause is a lemma.
 use Rattle.pool_laws.proofs.Insertions.{tx-transaction_of}
-use Rattle.node_invariants.proofs.Stores.{opening-store, on_message-store, on_addition-store, on_start-store}
-use Rattle.node_invariants.proofs.stores_are_kept.Goals as goal
+use Rattle.invariant_laws.proofs.Stores.{opening-store, on_message-store, on_addition-store, on_start-store}
+use Rattle.invariant_laws.proofs.stores_are_kept.Goals as goal
 
 pub returns-clause-opening : goal.returns-clause-opening
 returns-clause-opening c = opening-store

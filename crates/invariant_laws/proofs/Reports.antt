@@ -25,10 +25,10 @@ use Rattle.node_rules.specs.State.{NodeState, Round, node_keys}
 use Rattle.node_rules.specs.Steps.{on_message, on_start}
 use Rattle.node_rules.specs.declared.end.End.{End}
 use Rattle.node_rules.specs.declared.end.End.TheVariants as end
-use Rattle.node_invariants.proofs.Bounds.{round_after_sketch-is, answer-is, sketched-round}
-use Rattle.node_invariants.proofs.Numbers.{is_in_each, rising_once}
-use Rattle.node_invariants.proofs.Rows.{EachRow, IsAwaitingSketch, on_message-rows, on_addition-rows, on_start-rows}
-use Rattle.node_invariants.proofs.Sets.{pooled_ids}
+use Rattle.invariant_laws.proofs.Bounds.{round_after_sketch-is, answer-is, sketched-round}
+use Rattle.invariant_laws.proofs.Numbers.{is_in_each, rising_once}
+use Rattle.invariant_laws.proofs.Rows.{EachRow, IsAwaitingSketch, on_message-rows, on_addition-rows, on_start-rows}
+use Rattle.invariant_laws.proofs.Sets.{pooled_ids}
 
 -- ---- short ids
 

@@ -1,7 +1,7 @@
 -- Each clause is a lemma.
 use Rattle.pool_laws.proofs.Insertions.{tx-transaction_of}
-use Rattle.node_invariants.proofs.Conversing.{opening-conversing, on_message-conversing, on_addition-conversing, on_start-conversing}
-use Rattle.node_invariants.proofs.conversations_are_kept.Goals as goal
+use Rattle.invariant_laws.proofs.Conversing.{opening-conversing, on_message-conversing, on_addition-conversing, on_start-conversing}
+use Rattle.invariant_laws.proofs.conversations_are_kept.Goals as goal
 
 pub returns-clause-opening : goal.returns-clause-opening
 returns-clause-opening c = opening-conversing

@@ -1,7 +1,7 @@
 -- Each clause is a lemma, or a part of one.
 use Rattle.pool_laws.proofs.Insertions.{tx-transaction_of}
-use Rattle.node_invariants.proofs.Joined.{on_message-node, on_messages-sound, on_piece-sound, on_addition-node, on_start-node}
-use Rattle.node_invariants.proofs.nodes_stay_nodes.Goals as goal
+use Rattle.invariant_laws.proofs.Joined.{on_message-node, on_messages-sound, on_piece-sound, on_addition-node, on_start-node}
+use Rattle.invariant_laws.proofs.nodes_stay_nodes.Goals as goal
 
 pub returns-clause-by_message : goal.returns-clause-by_message
 returns-clause-by_message c = λ s m h sound. on_message-node s h m sound

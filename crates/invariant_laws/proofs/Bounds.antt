@@ -30,9 +30,9 @@ use Rattle.node_rules.specs.Turns.{Turn, after_move}
 use Rattle.node_rules.specs.declared.config.Config.{Config}
 use Rattle.node_rules.specs.declared.end.End.{End}
 use Rattle.node_rules.specs.declared.end.End.TheVariants as end
-use Rattle.node_invariants.proofs.Numbers.{mine_few, sums_small}
-use Rattle.node_invariants.proofs.Rows.{EachRow, IsAwaitingSketch, on_message-rows, on_addition-rows, on_start-rows}
-use Rattle.node_invariants.proofs.Stages.{HasNoSketch, greeting-rests, greeted-rests, idle-rests, barrier-rests, behind-rests, is_idle-rests, is_barrier-rests, phase_after_fetch-asked, phase_after_fetch-sent_extensions, asked-waiting_phase, sent_extensions-waiting_phase, sent_extensions-sent_phase, asked-sent_phase, sent_extensions-unasked, some_is}
+use Rattle.invariant_laws.proofs.Numbers.{mine_few, sums_small}
+use Rattle.invariant_laws.proofs.Rows.{EachRow, IsAwaitingSketch, on_message-rows, on_addition-rows, on_start-rows}
+use Rattle.invariant_laws.proofs.Stages.{HasNoSketch, greeting-rests, greeted-rests, idle-rests, barrier-rests, behind-rests, is_idle-rests, is_barrier-rests, phase_after_fetch-asked, phase_after_fetch-sent_extensions, asked-waiting_phase, sent_extensions-waiting_phase, sent_extensions-sent_phase, asked-sent_phase, sent_extensions-unasked, some_is}
 
 -- ---- a sketch that has come
 

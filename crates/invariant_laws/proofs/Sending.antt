@@ -27,12 +27,12 @@ use Rattle.node_rules.specs.Steps.{on_message, on_start}
 use Rattle.node_rules.specs.Turns.{inv_of, getdata_of, notfound_of}
 use Rattle.node_rules.specs.declared.config.Config.{Config}
 use Rattle.node_rules.specs.declared.config.Role.{Role}
-use Rattle.node_invariants.proofs.Bounds.{answer-is, round_after_sketch-is, sketched-round}
-use Rattle.node_invariants.proofs.Fitting.{IsAnnounceable, members_announce, part_announces, pool_fits}
-use Rattle.node_invariants.proofs.Rooms.{lack_all, lack_append}
-use Rattle.node_invariants.proofs.Rows.{EachRow, IsAwaitingSketch, IsNews, on_message-rows, on_addition-rows, on_start-rows}
-use Rattle.node_invariants.proofs.Sendable.{reply_sent, opening_sent, sent_inv, sent_getdata, sent_notfound, news_few, announced_few, sent_ping, sent_pong, sent_request, sent_extension, sent_sketch, sent_failure, merged_few, sent_asks, sent_ids, sent_end, serves_sent}
-use Rattle.node_invariants.proofs.Stores.{IsId, fresh_ids}
+use Rattle.invariant_laws.proofs.Bounds.{answer-is, round_after_sketch-is, sketched-round}
+use Rattle.invariant_laws.proofs.Fitting.{IsAnnounceable, members_announce, part_announces, pool_fits}
+use Rattle.invariant_laws.proofs.Rooms.{lack_all, lack_append}
+use Rattle.invariant_laws.proofs.Rows.{EachRow, IsAwaitingSketch, IsNews, on_message-rows, on_addition-rows, on_start-rows}
+use Rattle.invariant_laws.proofs.Sendable.{reply_sent, opening_sent, sent_inv, sent_getdata, sent_notfound, news_few, announced_few, sent_ping, sent_pong, sent_request, sent_extension, sent_sketch, sent_failure, merged_few, sent_asks, sent_ids, sent_end, serves_sent}
+use Rattle.invariant_laws.proofs.Stores.{IsId, fresh_ids}
 
 few_after : (c n : ℕ) → c ≤ 1024 → n ≤ 2 → capacity_after c n ≤ 4096
 few_after c zero h k = omega arith
