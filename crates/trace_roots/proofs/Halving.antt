@@ -5,6 +5,7 @@ use Rattle.std.specs.List.{All}
 use Rattle.std.proofs.lemmas.List.{get_or_past}
 use Rattle.std.proofs.lemmas.List.Elements.{All-filter}
 use Rattle.std.proofs.lemmas.List.Sorted.{IsPermutation-trans, IsPermutation-append_comm}
+use Rattle.field_rules.specs.Lists.{sums_of_both}
 use Rattle.field_rules.specs.Ops.{Ops, IsRing}
 use Rattle.field_rules.specs.Fields.{IsField, trace_of}
 use Rattle.field_rules.specs.Numbered.{IsNumbered}
@@ -19,9 +20,9 @@ use Rattle.splitting_laws.proofs.Parts.{IsToldBy, told_by_bits, sums_of_part, su
 use Rattle.splitting_laws.proofs.Recurrences.{smaller_part, shortest_within}
 use Rattle.splitting_laws.proofs.Returns.{constant_of_values}
 use Rattle.sketch_laws.proofs.EverySums.{length-power_sums, get_or-power_sums}
-use Rattle.trace_roots.specs.Added.{IsItemwiseSum}
 use Rattle.trace_roots.specs.Parts.{IsSet, AreTraces, IsPart, AreSides, IsSmaller, IsSplit}
 use Rattle.trace_roots.proofs.Parting.{degree_of_set}
+use Rattle.trace_roots.proofs.Sums.{both-size, both-each}
 
 -- a test that nothing passes fails everywhere
 none_pass : {A : Type 0} (p : A → Bool) (xs : List A) → length (filter p xs) ≡ 0 → All (λ x. p x ≡ false) xs
@@ -71,14 +72,18 @@ module _ {A : Type 0} (ops : Ops A) (ring : IsRing ops) (bits_of : A → ℕ) (w
     inside_is inside windows =
         sums_of_part ops ring t test es (length es) (2 * length es) inside told (omega (arith, short)) (subst (λ z. IsCorrelation ops t z (length es) inside) part.sums_are windows)
 
-    pub outside_is : (inside outside : List A) → inside ≡ power_sums ops passing 1 (length es) → length inside ≡ length es → IsItemwiseSum ops inside sums outside → outside ≡ power_sums ops failing 1 (length es)
+    pub outside_is : (inside outside : List A) → inside ≡ power_sums ops passing 1 (length es) → length inside ≡ length es → outside ≡ sums_of_both ops inside sums → outside ≡ power_sums ops failing 1 (length es)
     outside_is inside outside is size added =
-        sums_of_others ops ring test es (length es) (2 * length es) outside (omega arith) (added.size ∙ size)
+        sums_of_others ops ring test es (length es) (2 * length es) outside (omega arith) (ap length added ∙ both-size ops inside sums fits ∙ size)
         (λ k lt.
-        added.each k (omega (arith, size))
+        ap (λ z. coefficient ops z k) added
+        ∙ both-each ops inside sums fits k (omega (arith, size))
         ∙ ring.plus_comm (coefficient ops inside k) (coefficient ops sums k)
         ∙ ap (λ z. ops.plus (coefficient ops z k) (coefficient ops inside k)) part.sums_are
         ∙ ap (λ z. ops.plus (coefficient ops (power_sums ops es 1 (2 * length es)) k) (coefficient ops z k)) is)
+      where
+        fits : length inside ≤ length sums
+        fits = let all = ap length part.sums_are ∙ length-power_sums ops es 1 (2 * length es) in omega (arith, size, all)
 
     -- no part is empty: else the values would be one, and the polynomial an element alone
     pub some_pass : 2 ≤ length t → IsTrimmed ops t → 1 ≤ length es → 1 ≤ length passing

@@ -7,5 +7,6 @@ mod Halving
 mod Parting
 mod Pushed
 mod Stepping
+mod Sums
 mod Whole
 mod WindowSums

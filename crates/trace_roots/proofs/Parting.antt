@@ -1,7 +1,8 @@
 -- What is known of the parts of a set.
-use Rattle.std.proofs.Common.{◌≡◌, ℕ, suc, ◌+◌, ◌*◌, ◌<◌, ◌≤◌, List, [], ◌∷◌, length, get_or, take, reverse, sym, ap, subst, ◌∙◌, arith}
+use Rattle.std.proofs.Common.{◌≡◌, ℕ, suc, ◌+◌, ◌*◌, ◌<◌, ◌≤◌, List, [], ◌∷◌, length, get_or, take, reverse, sym, ap, ap₂, subst, ◌∙◌, arith}
 use Rattle.std.specs.List.{All}
 use Rattle.std.proofs.lemmas.List.{length-take-le, get_or_default, ext_get_or}
+use Rattle.field_rules.specs.Lists.{sums_of_both}
 use Rattle.field_rules.specs.Ops.{Ops, IsRing}
 use Rattle.field_rules.specs.Fields.{IsField}
 use Rattle.sketch_rules.specs.PowerSums.{power_sum, power_sums}
@@ -16,8 +17,8 @@ use Rattle.sketch_laws.proofs.EverySums.{length-power_sums, get_or-power_sums}
 use Rattle.recurrence_laws.proofs.Monic.{monic_form}
 use Rattle.splitting_laws.proofs.Recurrences.{shortest_of_set}
 use Rattle.splitting_laws.proofs.Extensions.{sums_extended}
-use Rattle.trace_roots.specs.Added.{IsItemwiseSum}
 use Rattle.trace_roots.specs.Parts.{HasFittingSizes, IsSet, AreTraces, IsPart, AreHalves}
+use Rattle.trace_roots.proofs.Sums.{both-size, both-each}
 
 -- each polynomial is the remainder of the one at its index
 pub record AreRemainders {A : Type 0} (ops : Ops A) (f : List A) (traces rests : List (List A)) : Type 0 where
@@ -87,19 +88,23 @@ module _ {A : Type 0} (ops : Ops A) (ring : IsRing ops) where
         (subst (λ z. IsExtension ops f z (2 * length large) own) front_is (subst (λ z. IsExtension ops f front z own) same extends))
 
     -- the sums of the larger one: those of both, with those of the smaller one added
-    pub large_sums : (own rest : List A) → own ≡ power_sums ops small 1 (2 * length large) → IsItemwiseSum ops own sums rest → rest ≡ power_sums ops large 1 (2 * length large)
+    pub large_sums : (own rest : List A) → own ≡ power_sums ops small 1 (2 * length large) → rest ≡ sums_of_both ops own sums → rest ≡ power_sums ops large 1 (2 * length large)
     large_sums own rest own_is added =
         ext_get_or ops.zero rest (power_sums ops large 1 (2 * length large)) (size ∙ sym (length-power_sums ops large 1 (2 * length large))) each
       where
         own_size : length own ≡ 2 * length large
         own_size = ap length own_is ∙ length-power_sums ops small 1 (2 * length large)
 
+        fits : length own ≤ length sums
+        fits = let all = halves.size in omega (arith, own_size, all)
+
         size : length rest ≡ 2 * length large
-        size = added.size ∙ own_size
+        size = ap length added ∙ both-size ops own sums fits ∙ own_size
 
         each : (k : ℕ) → k < length rest → get_or rest k ops.zero ≡ get_or (power_sums ops large 1 (2 * length large)) k ops.zero
         each k lt =
-            added.each k (omega (arith, added.size))
+            ap (λ z. get_or z k ops.zero) added
+            ∙ both-each ops own sums fits k (omega (arith, size, own_size))
             ∙ ap (λ z. ops.plus z (coefficient ops sums k)) (ap (λ z. coefficient ops z k) own_is ∙ get_or-power_sums ops small 1 (2 * length large) k ops.zero (omega (arith, size)) ∙ ap (λ j. power_sum ops j small) (omega arith))
             ∙ ap (ops.plus (power_sum ops (suc k) small)) (halves.together k (omega (arith, halves.size, size)))
             ∙ plus_again ops ring (power_sum ops (suc k) small) (power_sum ops (suc k) large)
@@ -113,10 +118,10 @@ module _ {A : Type 0} (ops : Ops A) (ring : IsRing ops) where
 
     -- all together, where own', sums' and rest' are what the calls were given for own, sums and rest
     pub both_solved : IsField ops width → (f front own own' sums' rest rest' ds : List A) (n : ℕ) → front ≡ power_sums ops small 1 (length small + length large) → f ≡ with_roots ops small
-        → n ≡ 2 * length large → IsExtension ops f front n own → own' ≡ own → sums' ≡ sums → IsItemwiseSum ops own' sums' rest → rest' ≡ rest → IsShortest ops ds rest'
+        → n ≡ 2 * length large → IsExtension ops f front n own → own' ≡ own → sums' ≡ sums → rest ≡ sums_of_both ops own' sums' → rest' ≡ rest → IsShortest ops ds rest'
         → AreSolved small large own rest ds
     both_solved field f front own own' sums' rest rest' ds n front_is f_is same extends own_same sums_same added rest_same shortest =
         let own_is : own ≡ power_sums ops small 1 (2 * length large) = small_sums f front own n front_is f_is same extends in
-        let rest_is : rest ≡ power_sums ops large 1 (2 * length large) = large_sums own rest own_is (subst (λ z. IsItemwiseSum ops z sums rest) own_same (subst (λ z. IsItemwiseSum ops own' z rest) sums_same added)) in
+        let rest_is : rest ≡ power_sums ops large 1 (2 * length large) = large_sums own rest own_is (added ∙ ap₂ (sums_of_both ops) own_same sums_same) in
         let found : (length ds ≡ length large) × (reverse (ops.one ∷ ds) ≡ with_roots ops large) = large_recurrence field rest ds rest_is (subst (IsShortest ops ds) rest_same shortest) in
         record { own_is = own_is; rest_is = rest_is; size = found.0; polynomial = found.1 }

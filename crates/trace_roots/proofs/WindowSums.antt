@@ -7,7 +7,6 @@ use Rattle.poly_rules.specs.Polynomials.{coefficient, sum_of, scalar_multiple}
 use Rattle.field_laws.proofs.RingFacts.{times_zero, one_times}
 use Rattle.poly_laws.proofs.Sums.{coefficient-sum, coefficient-scalar_multiple}
 use Rattle.splitting_laws.specs.Parts.{IsCorrelation}
-use Rattle.trace_roots.specs.Added.{IsItemwiseSum}
 use Rattle.poly_laws.proofs.Division.{length-sum, with_multiple-sum}
 
 module _ {A : Type 0} (ops : Ops A) (ring : IsRing ops) where
@@ -61,25 +60,6 @@ module _ {A : Type 0} (ops : Ops A) (ring : IsRing ops) where
           ∙ get_or-drop i sums k ops.zero
           ∙ ap (λ z. get_or sums z ops.zero) (omega arith)
           ∙ sym (get_or-drop k sums i ops.zero)
-
-  -- one times each of the second list
-  pub added : (first second v : List A) (m : ℕ) → length first ≤ length second → m ≡ length first → v ≡ with_multiple ops first ops.one (take m second) → IsItemwiseSum ops first second v
-  added first second v m fits same v_is = record {
-    size = ap length sum ∙ length-sum ops first (scalar_multiple ops ops.one part) (omega (arith, part_size, length-map part (λ a. ops.times ops.one a)));
-    each = λ k below.
-        ap (λ z. coefficient ops z k) sum
-        ∙ coefficient-sum ops ring first (scalar_multiple ops ops.one part) k
-        ∙ ap (ops.plus (coefficient ops first k)) (coefficient-scalar_multiple ops ring ops.one part k ∙ one_times ops ring (coefficient ops part k) ∙ get_or-take m second k ops.zero (omega arith));
-  }
-    where
-      part : List A
-      part = take m second
-
-      part_size : length part ≡ length first
-      part_size = length-take-le m second (omega arith) ∙ same
-
-      sum : v ≡ sum_of ops first (scalar_multiple ops ops.one part)
-      sum = v_is ∙ with_multiple-sum ops ops.one first part (omega (arith, part_size))
 
 -- a multiple of a shorter list is added to the front
 pub at_front : {A : Type 0} (ops : Ops A) (k : A) (acc items : List A) → length items ≤ length acc

@@ -1,3 +1,2 @@
-pub mod Added
 pub mod Agreeing
 pub mod Parts

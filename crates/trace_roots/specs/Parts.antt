@@ -4,7 +4,7 @@ use Rattle.std.specs.List.{All}
 use Rattle.std.specs.List.Sorted.{IsPermutation}
 use Rattle.field_rules.specs.Ops.{Ops}
 use Rattle.field_rules.specs.Fields.{trace_of}
-use Rattle.field_rules.specs.Lists.{AreDistinct}
+use Rattle.field_rules.specs.Lists.{AreDistinct, sums_of_both}
 use Rattle.sketch_rules.specs.PowerSums.{power_sum, power_sums}
 use Rattle.poly_rules.specs.Polynomials.{coefficient, IsSamePolynomial, IsMonic, degree, value_at}
 use Rattle.poly_rules.specs.Roots.{with_roots}
@@ -12,7 +12,6 @@ use Rattle.splitting_laws.specs.Alike.{IsAlike}
 use Rattle.poly_rules.specs.Recurrences.{IsShortest}
 use Rattle.splitting_laws.specs.Parts.{IsCorrelation}
 use Rattle.splitting_laws.specs.Traces.{trace_polynomial}
-use Rattle.trace_roots.specs.Added.{IsItemwiseSum}
 
 -- the sizes fit: a monic polynomial, twice as many sums as its degree, and trace polynomials of lower degree
 pub record HasFittingSizes {A : Type 0} (ops : Ops A) (locator sums : List A) (traces : List (List A)) : Type 0 where
@@ -49,7 +48,8 @@ pub record IsPart {A : Type 0} (ops : Ops A) (bits_of : A → ℕ) (width first 
 -- the sums of the members where t is one and of the others, n each, and their shortest recurrences
 pub record AreSides {A : Type 0} (ops : Ops A) (t sums : List A) (n : ℕ) (inside outside inner outer : List A) : Type 0 where
   pub windows : IsCorrelation ops t sums n inside
-  pub others : IsItemwiseSum ops inside sums outside
+  pub others : outside ≡ sums_of_both ops inside sums
+  pub size : length outside ≡ n
   pub inner_is : IsShortest ops inner inside
   pub outer_is : IsShortest ops outer outside
 

@@ -2,8 +2,8 @@
 
 ghost use Rattle.std.specs.Prelude.{◌≡◌, ◌+◌, ◌≤◌, length, replicate, IfOk};
 ghost use Rattle.field_rules.specs.Fields.{with_multiple};
+ghost use Rattle.field_rules.specs.Lists.{sums_of_both};
 ghost use Rattle.splitting_laws.specs.Parts.{IsCorrelation};
-ghost use Rattle.trace_roots.specs.Added.{IsItemwiseSum};
 
 use base_types::OutOfMemory;
 use field_core::Field;
@@ -46,7 +46,8 @@ fn add_windows<F: Field>(products: &mut [F], coefficients: &[F], sums: &[F])
 /// The items of the first list, each added to the one at its index in the second.
 pub fn added<F: Field>(alloc: Global, first: &[F], second: &[F]) -> Result<Vec<F>, OutOfMemory>
     requires { length first.now ≤ length second.now }
-    ensures { IfOk result (λ v. IsItemwiseSum F.ops first.now second.now v.items) }
+    ensures sums { IfOk result (λ v. v.items ≡ sums_of_both F.ops first.now second.now) }
+    ensures size { IfOk result (λ v. length v.items ≡ length first.now) }
 {
     let mut both = Vec::from_slice(alloc, first)?;
     F::axpy(both.as_mut_slice(), F::ONE, &second[..first.len()]);

@@ -12,7 +12,7 @@ returns-then-length-n-clause-found g c first small large smaller =
     both_solved g.F.Field.ops g.met.F.Field.ring g.F.Field.bits_of g.F.Field.BITS first small large c.args.part.now.sums.items c.args.part.now.traces.items smaller.halves g.met.F.Field.field
     c.into_monic_form-f.result c.args.sums.now c.in_ok-own.own.items c.as_slice.result.now c.as_slice-2.result.now c.in_ok-rest.rest.items c.as_slice-3.result.now c.in_ok-larger.larger
     (2 * (length c.args.sums.now - c.length-size.result)) smaller.front_is (c.into_monic_form-f.ensures.value ∙ smaller.polynomial) (omega (arith, n, smaller.length_is, c.length-size.ensures)) c.in_ok-own.ensures
-    c.as_slice.ensures.value c.as_slice-2.ensures.value c.in_ok-rest.ensures c.as_slice-3.ensures.value c.in_ok-larger.ensures.shortest in
+    c.as_slice.ensures.value c.as_slice-2.ensures.value c.in_ok-rest.ensures.sums c.as_slice-3.ensures.value c.in_ok-larger.ensures.shortest in
     absurd (c.if-length-n.true (omega (arith, c.length.ensures, c.length-size.ensures, solved.size, n, smaller.length_is)))
 
 pub returns-clause-parts : goal.returns-clause-parts
@@ -22,7 +22,7 @@ returns-clause-parts g c first small large smaller =
     both_solved g.F.Field.ops g.met.F.Field.ring g.F.Field.bits_of g.F.Field.BITS first small large c.args.part.now.sums.items c.args.part.now.traces.items smaller.halves g.met.F.Field.field
     c.into_monic_form-f.result c.args.sums.now c.in_ok-own.own.items c.as_slice.result.now c.as_slice-2.result.now c.in_ok-rest.rest.items c.as_slice-3.result.now c.in_ok-larger.larger
     (2 * (length c.args.sums.now - c.length-size.result)) smaller.front_is (c.into_monic_form-f.ensures.value ∙ smaller.polynomial) (omega (arith, n, smaller.length_is, c.length-size.ensures)) c.in_ok-own.ensures
-    c.as_slice.ensures.value c.as_slice-2.ensures.value c.in_ok-rest.ensures c.as_slice-3.ensures.value c.in_ok-larger.ensures.shortest in (
+    c.as_slice.ensures.value c.as_slice-2.ensures.value c.in_ok-rest.ensures.sums c.as_slice-3.ensures.value c.in_ok-larger.ensures.shortest in (
       c.in_ok-first.ensures.part first small smaller.halves.small_set (c.into_monic_form-f.ensures.value ∙ smaller.polynomial)
           (ap (take (2 * length small)) solved.own_is ∙ take-power_sums g.F.Field.ops small 1 (2 * length small) (2 * length large) (omega (arith, smaller.halves.fewer)))
           (subst (AreTraces g.F.Field.ops g.F.Field.bits_of g.F.Field.BITS first small) (sym c.as_slice-4.ensures.value) smaller.halves.small_traces),
