@@ -4,5 +4,5 @@ pub mod Ended
 pub mod Handling
 pub mod Streaming
 pub mod NewIds
-pub mod Starving
+pub mod OutOfMemory
 pub mod Questions

@@ -68,21 +68,21 @@ module _ {A : Type 0} (ops : Ops A) (ring : IsRing ops) (bits_of : A → ℕ) (w
         by (inr one) = inr (traced i d lt ∙ one)
 
     -- the sums of those where it is one, and of the others
-    pub inside_is : (inside : List A) → IsCorrelation ops t sums (length es) inside → inside ≡ power_sums ops passing 1 (length es)
-    inside_is inside windows =
-        sums_of_part ops ring t test es (length es) (2 * length es) inside told (omega (arith, short)) (subst (λ z. IsCorrelation ops t z (length es) inside) part.sums_are windows)
+    pub trace_one_is : (trace_one : List A) → IsCorrelation ops t sums (length es) trace_one → trace_one ≡ power_sums ops passing 1 (length es)
+    trace_one_is trace_one correlation =
+        sums_of_part ops ring t test es (length es) (2 * length es) trace_one told (omega (arith, short)) (subst (λ z. IsCorrelation ops t z (length es) trace_one) part.sums_are correlation)
 
-    pub outside_is : (inside outside : List A) → inside ≡ power_sums ops passing 1 (length es) → length inside ≡ length es → outside ≡ sums_of_both ops inside sums → outside ≡ power_sums ops failing 1 (length es)
-    outside_is inside outside is size added =
-        sums_of_others ops ring test es (length es) (2 * length es) outside (omega arith) (ap length added ∙ both-size ops inside sums fits ∙ size)
+    pub trace_zero_is : (trace_one trace_zero : List A) → trace_one ≡ power_sums ops passing 1 (length es) → length trace_one ≡ length es → trace_zero ≡ sums_of_both ops trace_one sums → trace_zero ≡ power_sums ops failing 1 (length es)
+    trace_zero_is trace_one trace_zero is size added =
+        sums_of_others ops ring test es (length es) (2 * length es) trace_zero (omega arith) (ap length added ∙ both-size ops trace_one sums fits ∙ size)
         (λ k lt.
         ap (λ z. coefficient ops z k) added
-        ∙ both-each ops inside sums fits k (omega (arith, size))
-        ∙ ring.plus_comm (coefficient ops inside k) (coefficient ops sums k)
-        ∙ ap (λ z. ops.plus (coefficient ops z k) (coefficient ops inside k)) part.sums_are
+        ∙ both-each ops trace_one sums fits k (omega (arith, size))
+        ∙ ring.plus_comm (coefficient ops trace_one k) (coefficient ops sums k)
+        ∙ ap (λ z. ops.plus (coefficient ops z k) (coefficient ops trace_one k)) part.sums_are
         ∙ ap (λ z. ops.plus (coefficient ops (power_sums ops es 1 (2 * length es)) k) (coefficient ops z k)) is)
       where
-        fits : length inside ≤ length sums
+        fits : length trace_one ≤ length sums
         fits = let all = ap length part.sums_are ∙ length-power_sums ops es 1 (2 * length es) in omega (arith, size, all)
 
     -- no part is empty: else the values would be one, and the polynomial an element alone
@@ -128,30 +128,30 @@ module _ {A : Type 0} (ops : Ops A) (ring : IsRing ops) (bits_of : A → ℕ) (w
         ∙ power_sum-parts ops ring test (suc k) es
 
     -- the one with the shorter recurrence is the smaller one
-    module _ (inside outside inner outer : List A) (solved : AreSides ops t sums (degree f) inside outside inner outer) where
-      sides : AreSides ops t sums (length es) inside outside inner outer
-      sides = subst (λ n. AreSides ops t sums n inside outside inner outer) members solved
+    module _ (trace_one trace_zero one_locator zero_locator : List A) (solved : AreSides ops t sums (degree f) trace_one trace_zero one_locator zero_locator) where
+      sides : AreSides ops t sums (length es) trace_one trace_zero one_locator zero_locator
+      sides = subst (λ n. AreSides ops t sums n trace_one trace_zero one_locator zero_locator) members solved
 
-      passing_sums : inside ≡ power_sums ops passing 1 (length es)
-      passing_sums = inside_is inside sides.windows
+      passing_sums : trace_one ≡ power_sums ops passing 1 (length es)
+      passing_sums = trace_one_is trace_one sides.correlation
 
-      failing_sums : outside ≡ power_sums ops failing 1 (length es)
-      failing_sums = outside_is inside outside passing_sums sides.windows.size sides.others
+      failing_sums : trace_zero ≡ power_sums ops failing 1 (length es)
+      failing_sums = trace_zero_is trace_one trace_zero passing_sums sides.correlation.size sides.others
 
-      inner_shortest : IsShortest ops inner (power_sums ops passing 1 (length es))
-      inner_shortest = subst (IsShortest ops inner) passing_sums sides.inner_is
+      one_shortest : IsShortest ops one_locator (power_sums ops passing 1 (length es))
+      one_shortest = subst (IsShortest ops one_locator) passing_sums sides.one_is
 
-      outer_shortest : IsShortest ops outer (power_sums ops failing 1 (length es))
-      outer_shortest = subst (IsShortest ops outer) failing_sums sides.outer_is
+      zero_shortest : IsShortest ops zero_locator (power_sums ops failing 1 (length es))
+      zero_shortest = subst (IsShortest ops zero_locator) failing_sums sides.zero_is
 
-      pub inner_smaller : (front : List A) → front ≡ inside → 2 ≤ length t → IsTrimmed ops t → 1 ≤ degree f → length inner ≤ length outer
-          → IsSmaller ops bits_of width first passing failing sums traces front inner
-      inner_smaller front is long trimmed some shorter = record {
+      pub one_smaller : (front : List A) → front ≡ trace_one → 2 ≤ length t → IsTrimmed ops t → 1 ≤ degree f → length one_locator ≤ length zero_locator
+          → IsSmaller ops bits_of width first passing failing sums traces front one_locator
+      one_smaller front is long trimmed some shorter = record {
         halves = record {
           small_set = part_set test;
           large_set = part_set (λ e. not (test e));
           some = some_pass long trimmed (omega (arith, some, members));
-          fewer = omega (arith, shorter, only.0, shortest_within ops ring outer failing (length es) outer_shortest);
+          fewer = omega (arith, shorter, only.0, shortest_within ops ring zero_locator failing (length es) zero_shortest);
           size = size;
           together = together;
           small_traces = part_traces test;
@@ -162,19 +162,19 @@ module _ {A : Type 0} (ops : Ops A) (ring : IsRing ops) (bits_of : A → ℕ) (w
         polynomial = only.1;
       }
         where
-          only : (length inner ≡ length passing) × (reverse (ops.one ∷ inner) ≡ with_roots ops passing)
+          only : (length one_locator ≡ length passing) × (reverse (ops.one ∷ one_locator) ≡ with_roots ops passing)
           only =
-              smaller_part ops ring width field inner outer passing failing (length es) (part_set test).distinct (part_set test).nonzero (parts-length test es)
-              inner_shortest outer_shortest shorter
+              smaller_part ops ring width field one_locator zero_locator passing failing (length es) (part_set test).distinct (part_set test).nonzero (parts-length test es)
+              one_shortest zero_shortest shorter
 
-      pub outer_smaller : (front : List A) → front ≡ outside → 2 ≤ length t → IsTrimmed ops t → 1 ≤ degree f → length outer ≤ length inner
-          → IsSmaller ops bits_of width first failing passing sums traces front outer
-      outer_smaller front is long trimmed some shorter = record {
+      pub zero_smaller : (front : List A) → front ≡ trace_zero → 2 ≤ length t → IsTrimmed ops t → 1 ≤ degree f → length zero_locator ≤ length one_locator
+          → IsSmaller ops bits_of width first failing passing sums traces front zero_locator
+      zero_smaller front is long trimmed some shorter = record {
         halves = record {
           small_set = part_set (λ e. not (test e));
           large_set = part_set test;
           some = some_fail long trimmed (omega (arith, some, members));
-          fewer = omega (arith, shorter, only.0, shortest_within ops ring inner passing (length es) inner_shortest);
+          fewer = omega (arith, shorter, only.0, shortest_within ops ring one_locator passing (length es) one_shortest);
           size = size ∙ omega arith;
           together = λ k lt. together k lt ∙ ring.plus_comm (power_sum ops (suc k) passing) (power_sum ops (suc k) failing);
           small_traces = part_traces (λ e. not (test e));
@@ -185,10 +185,10 @@ module _ {A : Type 0} (ops : Ops A) (ring : IsRing ops) (bits_of : A → ℕ) (w
         polynomial = only.1;
       }
         where
-          only : (length outer ≡ length failing) × (reverse (ops.one ∷ outer) ≡ with_roots ops failing)
+          only : (length zero_locator ≡ length failing) × (reverse (ops.one ∷ zero_locator) ≡ with_roots ops failing)
           only =
-              smaller_part ops ring width field outer inner failing passing (length es) (part_set (λ e. not (test e))).distinct (part_set (λ e. not (test e))).nonzero
-              (omega (arith, parts-length test es)) outer_shortest inner_shortest shorter
+              smaller_part ops ring width field zero_locator one_locator failing passing (length es) (part_set (λ e. not (test e))).distinct (part_set (λ e. not (test e))).nonzero
+              (omega (arith, parts-length test es)) zero_shortest one_shortest shorter
 
     -- the set stands in both
     module _ (exponent : ℕ) (bits : bits_of b ≡ 2 ^ exponent) (alike : IsAlike ops bits_of width exponent es) (f1 s1 f2 s2 : List A) (ts1 ts2 : List (List A)) where

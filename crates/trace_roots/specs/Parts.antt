@@ -46,12 +46,12 @@ pub record IsPart {A : Type 0} (ops : Ops A) (bits_of : A → ℕ) (width first 
   pub traces_are : AreTraces ops bits_of width first es traces
 
 -- the sums of the members where t is one and of the others, n each, and their shortest recurrences
-pub record AreSides {A : Type 0} (ops : Ops A) (t sums : List A) (n : ℕ) (inside outside inner outer : List A) : Type 0 where
-  pub windows : IsCorrelation ops t sums n inside
-  pub others : outside ≡ sums_of_both ops inside sums
-  pub size : length outside ≡ n
-  pub inner_is : IsShortest ops inner inside
-  pub outer_is : IsShortest ops outer outside
+pub record AreSides {A : Type 0} (ops : Ops A) (t sums : List A) (n : ℕ) (trace_one trace_zero one_locator zero_locator : List A) : Type 0 where
+  pub correlation : IsCorrelation ops t sums n trace_one
+  pub others : trace_zero ≡ sums_of_both ops trace_one sums
+  pub size : length trace_zero ≡ n
+  pub one_is : IsShortest ops one_locator trace_one
+  pub zero_is : IsShortest ops zero_locator trace_zero
 
 -- two sets, the first no larger than the second and not empty, whose sums together are these
 pub record AreHalves {A : Type 0} (ops : Ops A) (bits_of : A → ℕ) (width first : ℕ) (small large sums : List A) (traces : List (List A)) : Type 0 where

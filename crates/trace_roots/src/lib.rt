@@ -2,6 +2,7 @@
 #![tactic(auto)]
 
 mod check;
+mod correlations;
 mod decoding;
 mod members;
 mod part;
@@ -9,7 +10,6 @@ mod splitting;
 #[cfg(test)]
 mod tests;
 mod traces;
-mod windows;
 
 pub use decoding::decode;
 pub use splitting::split;

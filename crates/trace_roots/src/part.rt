@@ -9,8 +9,8 @@ ghost use Rattle.poly_rules.specs.Roots.{with_roots};
 ghost use Rattle.splitting_laws.specs.Alike.{IsAlike};
 ghost use Rattle.trace_roots.specs.Parts.{HasFittingSizes, IsSet, AreTraces, IsPart, AreSides, IsSmaller, IsSplit};
 
+use crate::correlations::{correlation, item_sums};
 use crate::traces::reduced;
-use crate::windows::{added, windows};
 use base_types::OutOfMemory;
 use bm_solver::{Locator, shortest};
 use field_core::Field;
@@ -47,10 +47,10 @@ pub fn halves<F: Field>(
         → IfOk result (λ r. IfSome r (λ p. IsSplit F.ops F.bits_of F.BITS (exponent + 1) es p.0.locator p.0.sums.items p.0.traces.items p.1.locator p.1.sums.items p.1.traces.items)) }
 {
     let sides = solved(alloc, part, trace)?;
-    if sides.inner.length() <= sides.outer.length() {
-        parted(alloc, part, sides.inner, sides.inside.as_slice())
+    if sides.one_locator.length() <= sides.zero_locator.length() {
+        half_and_rest(alloc, part, sides.one_locator, sides.trace_one.as_slice())
     } else {
-        parted(alloc, part, sides.outer, sides.outside.as_slice())
+        half_and_rest(alloc, part, sides.zero_locator, sides.trace_zero.as_slice())
     }
 }
 
@@ -58,32 +58,32 @@ pub fn halves<F: Field>(
 /// recurrences of both.
 #[derive(Drop)]
 struct Sides<F: Field> {
-    inside: Vec<F>,
-    outside: Vec<F>,
-    inner: Locator<F>,
-    outer: Locator<F>,
+    trace_one: Vec<F>,
+    trace_zero: Vec<F>,
+    one_locator: Locator<F>,
+    zero_locator: Locator<F>,
 }
 
 fn solved<F: Field>(alloc: Global, part: &Part<F>, trace: &Poly<F>) -> Result<Sides<F>, OutOfMemory>
     requires fits { HasFittingSizes F.ops part.now.locator part.now.sums.items part.now.traces.items }
     requires lower { length trace.now ≤ degree part.now.locator }
-    ensures { IfOk result (λ s. AreSides F.ops trace.now part.now.sums.items (degree part.now.locator) s.inside.items s.outside.items s.inner s.outer) }
+    ensures { IfOk result (λ s. AreSides F.ops trace.now part.now.sums.items (degree part.now.locator) s.trace_one.items s.trace_zero.items s.one_locator s.zero_locator) }
 {
     let n = part.locator.coeffs().len() - 1;
-    let inside = windows(alloc, trace.coeffs(), part.sums.as_slice(), n)?;
-    let outside = added(alloc, inside.as_slice(), part.sums.as_slice())?;
-    let inner = shortest(alloc, inside.as_slice())?;
-    let outer = shortest(alloc, outside.as_slice())?;
+    let trace_one = correlation(alloc, trace.coeffs(), part.sums.as_slice(), n)?;
+    let trace_zero = item_sums(alloc, trace_one.as_slice(), part.sums.as_slice())?;
+    let one_locator = shortest(alloc, trace_one.as_slice())?;
+    let zero_locator = shortest(alloc, trace_zero.as_slice())?;
     Ok(Sides {
-        inside,
-        outside,
-        inner,
-        outer,
+        trace_one,
+        trace_zero,
+        one_locator,
+        zero_locator,
     })
 }
 
 /// The half that the locator is of, which is the smaller one, and the other.
-fn parted<F: Field>(
+fn half_and_rest<F: Field>(
     alloc: Global,
     part: &Part<F>,
     smaller: Locator<F>,
@@ -105,7 +105,7 @@ fn parted<F: Field>(
     }
     let f = smaller.into_monic_form();
     let own = extend_recurrence(alloc, &f, sums, 2 * (n - size))?;
-    let rest = added(alloc, own.as_slice(), part.sums.as_slice())?;
+    let rest = item_sums(alloc, own.as_slice(), part.sums.as_slice())?;
     let larger = shortest(alloc, rest.as_slice())?;
     if larger.length() != n - size {
         return Ok(None);

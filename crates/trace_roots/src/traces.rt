@@ -8,7 +8,7 @@ ghost use Rattle.poly_rules.specs.Roots.{with_roots};
 ghost use Rattle.trace_roots.specs.Parts.{IsSet, ArePolynomials, AreTraces};
 ghost use Rattle.splitting_laws.specs.Traces as spec;
 
-use crate::windows::{add_multiple, zeros};
+use crate::correlations::{add_multiple, zeros};
 use base_types::OutOfMemory;
 use field_core::Field;
 use poly_ops::{Poly, frobenius_table, rem_monic};

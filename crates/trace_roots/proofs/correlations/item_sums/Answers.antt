@@ -2,7 +2,7 @@ use Rattle.std.proofs.Common.{◌≡◌, ◌++◌, ◌∙◌, ap, length, take, 
 use Rattle.std.proofs.lemmas.List.{take_at}
 use Rattle.field_rules.specs.Lists.{sums_of_both}
 use Rattle.trace_roots.proofs.Sums.{added, both-size}
-use Rattle.trace_roots.proofs.windows.added.Goals as goal
+use Rattle.trace_roots.proofs.correlations.item_sums.Goals as goal
 
 pub returns-clause-sums : goal.returns-clause-sums
 returns-clause-sums g c =

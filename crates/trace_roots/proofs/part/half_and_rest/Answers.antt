@@ -3,7 +3,7 @@ use Rattle.sketch_laws.proofs.EverySums.{length-power_sums}
 use Rattle.splitting_laws.proofs.Windows.{take-power_sums}
 use Rattle.trace_roots.specs.Parts.{AreTraces}
 use Rattle.trace_roots.proofs.Parting.{AreSolved, both_solved}
-use Rattle.trace_roots.proofs.part.parted.Goals as goal
+use Rattle.trace_roots.proofs.part.half_and_rest.Goals as goal
 
 pub returns-then-length-n-clause-found : goal.returns-then-length-n-clause-found
 returns-then-length-n-clause-found g c first small large smaller =

@@ -1,4 +1,4 @@
-//! Sums of products with the windows of a list.
+//! Correlations: the sums of the products of a list with another from each index on.
 
 ghost use Rattle.std.specs.Prelude.{◌≡◌, ◌+◌, ◌≤◌, length, replicate, IfOk};
 ghost use Rattle.field_rules.specs.Fields.{with_multiple};
@@ -17,7 +17,7 @@ pub fn zeros<F: Field>(alloc: Global, n: usize) -> Result<Vec<F>, OutOfMemory>
 }
 
 /// For each k below n the sum of the products of `coefficients` with the sums from index k on.
-pub fn windows<F: Field>(
+pub fn correlation<F: Field>(
     alloc: Global,
     coefficients: &[F],
     sums: &[F],
@@ -27,12 +27,12 @@ pub fn windows<F: Field>(
     ensures { IfOk result (λ v. IsCorrelation F.ops coefficients.now sums.now n v.items) }
 {
     let mut products = zeros(alloc, n)?;
-    add_windows(products.as_mut_slice(), coefficients, sums);
+    add_correlation(products.as_mut_slice(), coefficients, sums);
     Ok(products)
 }
 
 /// Adds them to zeros.
-fn add_windows<F: Field>(products: &mut [F], coefficients: &[F], sums: &[F])
+fn add_correlation<F: Field>(products: &mut [F], coefficients: &[F], sums: &[F])
     requires zeros { products.old ≡ replicate (length products.old) F.ops.zero }
     requires fits { length products.old + length coefficients.now ≤ length sums.now }
     ensures { IsCorrelation F.ops coefficients.now sums.now (length products.old) products.new }
@@ -44,7 +44,7 @@ fn add_windows<F: Field>(products: &mut [F], coefficients: &[F], sums: &[F])
 }
 
 /// The items of the first list, each added to the one at its index in the second.
-pub fn added<F: Field>(alloc: Global, first: &[F], second: &[F]) -> Result<Vec<F>, OutOfMemory>
+pub fn item_sums<F: Field>(alloc: Global, first: &[F], second: &[F]) -> Result<Vec<F>, OutOfMemory>
     requires { length first.now ≤ length second.now }
     ensures sums { IfOk result (λ v. v.items ≡ sums_of_both F.ops first.now second.now) }
     ensures size { IfOk result (λ v. length v.items ≡ length first.now) }

@@ -1,6 +1,6 @@
 use Rattle.std.proofs.Common.{◌+◌, ◌-◌, length, arith}
 use Rattle.trace_roots.proofs.WindowSums.{no_windows, more_windows}
-use Rattle.trace_roots.proofs.windows.add_windows.Goals as goal
+use Rattle.trace_roots.proofs.correlations.add_correlation.Goals as goal
 
 pub loop-i-init : goal.loop-i-init
 loop-i-init g c = no_windows g.F.Field.ops g.met.F.Field.ring c.args.coefficients.now c.args.sums.now (length c.args.products.now) c.args.products.now c.requires.zeros
