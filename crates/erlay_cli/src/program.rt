@@ -31,6 +31,7 @@ pub fn exit_code<I: Source, O: Sink>(
         (observation_of O.written O.faults output.old) (observation_of O.written O.faults output.new)) result) }
     ensures no_memory { IfErr arguments (λ error. error_kind error ≡ ErrorKind.OutOfMemory → IsCodeOf
         (IsWritten Status.OutOfMemory (line out_of_memory_text) (observation_of O.written O.faults output.old) (observation_of O.written O.faults output.new)) result) }
+    ensures untouched { IfErr arguments (λ error. error_kind error ≡ ErrorKind.OutOfMemory → observation_of I.left I.faults input.new ≡ observation_of I.left I.faults input.old) }
 {
     match arguments {
         Ok(arguments) => run(alloc, words_of(arguments.as_slice()), input, output).code(),
