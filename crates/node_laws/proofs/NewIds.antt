@@ -10,7 +10,7 @@ use Rattle.id_rules.proofs.Lists.{all_filter, filter_yes, filter_no, filter_swap
 use Rattle.node_rules.specs.Inventory.{new_ids}
 
 -- a list without an id
-without_kept : (P : Hash32 → Type 0) (ids : List Hash32) (id : Hash32) → AllByRecursion P ids → AllByRecursion P (without_id ids id)
+pub without_kept : (P : Hash32 → Type 0) (ids : List Hash32) (id : Hash32) → AllByRecursion P ids → AllByRecursion P (without_id ids id)
 without_kept P ids id h = all_filter P (λ other. not (is_same_id other id)) ids h
 
 pub new_unknown : (known : Hash32 → Bool) (ids : List Hash32) → AllByRecursion (λ id. known id ≡ false) (new_ids known ids)

@@ -191,7 +191,7 @@ from_sketch h = sketch_first ∙ ap (λ (x : Effect). (effect_sequence x (run_fr
 answered_by_both : answer_of difference_sums ≡ Some both
 answered_by_both = (answer_at-exactly 32 certificate_32 difference_sums both).1 both_answer
 
-whole : (run new_pair script).world ≡ last
+pub whole : (run new_pair script).world ≡ last
 whole =
     run_from-append to_the_sketch (event.DeliverBa all ∷ deliveries 15) new_pair
     ∙ ap (λ w. (run_from (event.DeliverBa all ∷ deliveries 15) w).world) begins
@@ -202,7 +202,7 @@ whole =
 apart : ◌≡◌ {A = ℕ} 0xd977c38b 0x7d73875b → hello.id ≡ abc.id
 apart same = absurd (true≢false (ap (λ n. n == 0xd977c38b) same))
 
-fits : IsReconcilable (pair_keys last) opener_report accepter_report
+pub fits : IsReconcilable (pair_keys last) opener_report accepter_report
 unfolding happening
 fits = inr (record { apart = ((apart, tt), tt); small = lit≤ tt })
 
@@ -223,7 +223,7 @@ finished = record {
 }
 
 -- so the script leaves a drained world that is finished, as the headline says of every one
-script_drains : IsDrained (run new_pair script).world
+pub script_drains : IsDrained (run new_pair script).world
 script_drains = subst IsDrained (sym whole) drained
 
 script_finishes : IsFinished (run new_pair script).world

@@ -1,0 +1,9 @@
+pub mod Pairs
+pub mod Topics
+pub mod Handshake
+pub mod Rounds
+pub mod Wants
+pub mod Announcements
+pub mod Announced
+pub mod Invariant
+pub mod Ends
