@@ -1,0 +1,11 @@
+pub mod Bounded
+pub mod Counts
+pub mod Deliveries
+pub mod Examples
+pub mod Given
+pub mod Greeting
+pub mod Joining
+pub mod Saying
+pub mod Spending
+pub mod Totals
+pub mod Wires
