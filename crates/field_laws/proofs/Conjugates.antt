@@ -20,6 +20,12 @@ conjugate-next ops (suc n) a = conjugate-next ops n (ops.times a a)
 pub conjugate-more : {A : Type 0} (ops : Ops A) (n : ℕ) (a p : A) → p ≡ conjugate ops n a → ops.times p p ≡ conjugate ops (n + 1) a
 conjugate-more ops n a p is = ap (λ z. ops.times z z) is ∙ sym (conjugate-next ops n a) ∙ ap (λ k. conjugate ops k a) (sym (add-one n))
 
+-- squared i times, and then j times
+pub conjugate-runs : {A : Type 0} (ops : Ops A) (i j : ℕ) (a : A) → conjugate ops (j + i) a ≡ conjugate ops j (conjugate ops i a)
+unfolding conjugate
+conjugate-runs ops zero j a = let whole : j + zero ≡ j = omega arith in ap (λ n. conjugate ops n a) whole
+conjugate-runs ops (suc i) j a = let index : j + suc i ≡ suc (j + i) = omega arith in ap (λ n. conjugate ops n a) index ∙ conjugate-runs ops i j (ops.times a a)
+
 module _ {A : Type 0} (ops : Ops A) (ring : IsRing ops) where
   -- the conjugate of a sum
   pub conjugate-plus : (n : ℕ) (a b : A) → conjugate ops n (ops.plus a b) ≡ ops.plus (conjugate ops n a) (conjugate ops n b)

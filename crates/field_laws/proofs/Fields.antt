@@ -12,7 +12,7 @@ use Rattle.field_rules.specs.Elements.{product, numbers}
 use Rattle.field_rules.specs.Fields.{conjugate, trace_of, IsField, IsSeparatedByTrace}
 use Rattle.field_rules.specs.Numbered.{IsNumbered}
 use Rattle.field_laws.specs.Certified.{bit_selection, square_plus_element, is_inverse_table, Certificate}
-use Rattle.field_laws.proofs.Xors.{bit_cases, xor_swap}
+use Rattle.field_laws.proofs.Xors.{bit_cases, xor_swap, xor_same, xor_twice}
 use Rattle.field_laws.proofs.Carryless.{xor_digits}
 use Rattle.field_laws.proofs.RingFacts.{times_zero, zero_times, distributes_left, same_of_sum, square_plus, plus_swap}
 use Rattle.field_laws.proofs.Conjugates.{conjugate-plus, conjugate-times, conjugate-one, conjugate-zero}
@@ -30,7 +30,7 @@ bit_selection-zero i [] = refl
 bit_selection-zero i (t ∷ table) = rw (bit_selection-zero (i + 1) table, bit_at-zero i, zero-mul) (xor_zero_l 0)
 
 -- what the table selects keeps exclusive ors
-bit_selection-xor : (i : ℕ) (table : List ℕ) (u v : ℕ) → bit_selection i table (bit_xor u v) ≡ bit_xor (bit_selection i table u) (bit_selection i table v)
+pub bit_selection-xor : (i : ℕ) (table : List ℕ) (u v : ℕ) → bit_selection i table (bit_xor u v) ≡ bit_xor (bit_selection i table u) (bit_selection i table v)
 unfolding bit_selection
 bit_selection-xor i [] u v = sym (xor_zero_l 0)
 bit_selection-xor i (t ∷ table) u v =
@@ -156,6 +156,31 @@ module _ {A : Type 0} (ops : Ops A) (bits_of : A → ℕ) (width : ℕ) (ring : 
         by_powers_of_x ops bits_of width numbered (λ a. (rest_of a ≡ 0) ⊎ (rest_of a ≡ 1)) (inl (own_rest ops.zero (times_zero ops ring ops.zero) ∙ numbered.zero_bits))
         (λ a b p q. subst (λ z. (z ≡ 0) ⊎ (z ≡ 1)) (sym (rest_of-plus a b)) (xor_bits (rest_of a) (rest_of b) p q))
         power_rest
+
+    -- where c is the sum of some element and its square, so it is of what the table has for c
+    pub selected_root : (y c z : A) → ops.plus (ops.times y y) y ≡ c → bits_of z ≡ bit_selection 0 certified.table (bits_of c) → ops.plus (ops.times z z) z ≡ c
+    selected_root y c z is selected = by (rest_is_bit y)
+      where
+        rest : rest_of y ≡ bit_xor (bits_of z) (bits_of y)
+        rest = ap (λ a. bit_xor (bit_selection 0 certified.table (bits_of a)) (bits_of y)) is ∙ ap (λ n. bit_xor n (bits_of y)) (sym selected)
+
+        other : (ops.times ops.one ops.one ≡ ops.one) → ops.plus (ops.times (ops.plus ops.one y) (ops.plus ops.one y)) (ops.plus ops.one y) ≡ ops.plus (ops.times y y) y
+        other own =
+            ap (λ s. ops.plus s (ops.plus ops.one y)) (square_plus ops ring ops.one y ∙ ap (λ s. ops.plus s (ops.times y y)) own)
+            ∙ plus_swap ops ring ops.one (ops.times y y) ops.one y
+            ∙ ap (λ s. ops.plus s (ops.plus (ops.times y y) y)) (ring.plus_self ops.one)
+            ∙ ring.plus_comm ops.zero (ops.plus (ops.times y y) y)
+            ∙ ring.plus_zero (ops.plus (ops.times y y) y)
+
+        by : (rest_of y ≡ 0) ⊎ (rest_of y ≡ 1) → ops.plus (ops.times z z) z ≡ c
+        by (inl none) =
+            let same : y ≡ z = numbered.same y z (sym (xor_same (bits_of z) (bits_of y) (sym rest ∙ none))) in
+            subst (λ a. ops.plus (ops.times a a) a ≡ c) same is
+        by (inr one) =
+            let next : ops.plus ops.one y ≡ z =
+            numbered.same (ops.plus ops.one y) z
+            (numbered.plus_bits ops.one y ∙ ap (λ n. bit_xor n (bits_of y)) (numbered.one_bits ∙ sym one ∙ rest) ∙ xor_twice (bits_of z) (bits_of y)) in
+            subst (λ a. ops.plus (ops.times a a) a ≡ c) next (other (ring.times_one ops.one) ∙ is)
 
     -- only 0 and 1 are their own squares
     pub own_is_bit : (e : A) → ops.times e e ≡ e → (e ≡ ops.zero) ⊎ (e ≡ ops.one)

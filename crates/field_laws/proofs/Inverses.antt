@@ -1,9 +1,9 @@
 -- Inverses: a ^ (2 ^ n - 2), where a ^ (2 ^ n) is a and only 0 and 1 are their own squares.
-use Rattle.std.proofs.Common.{◌≡◌, ◌≢◌, ◌⊎◌, inl, inr, ℕ, zero, suc, ◌+◌, refl, sym, ap, ◌∙◌, add-one}
+use Rattle.std.proofs.Common.{◌≡◌, ◌≢◌, ◌⊎◌, inl, inr, ℕ, zero, suc, ◌+◌, refl, sym, ap, ◌∙◌, add-one, arith}
 use Rattle.field_rules.specs.Ops.{Ops, IsRing}
 use Rattle.field_rules.specs.Fields.{conjugate}
-use Rattle.field_laws.proofs.RingFacts.{one_times, times_zero, same_of_sum}
-use Rattle.field_laws.proofs.Conjugates.{conjugate-next}
+use Rattle.field_laws.proofs.RingFacts.{one_times, times_zero, same_of_sum, times_swap}
+use Rattle.field_laws.proofs.Conjugates.{conjugate-next, conjugate-times, conjugate-one, conjugate-runs}
 
 -- the product of a, a ^ 2, a ^ 4, .. of n factors, which is a ^ (2 ^ n - 1)
 unfoldable pub norm_of : {A : Type 0} → Ops A → ℕ → A → A
@@ -37,6 +37,41 @@ module _ {A : Type 0} (ops : Ops A) (ring : IsRing ops) where
   norm_of-first (suc n) a =
       sym (ring.times_assoc a (norm_of ops n (ops.times a a)) (conjugate ops n (ops.times a a)))
       ∙ ap (λ z. ops.times z (conjugate ops n (ops.times a a))) (norm_of-first n a)
+
+  -- the factors in two runs
+  pub norm_of-runs : (i j : ℕ) (a : A) → norm_of ops (j + i) a ≡ ops.times (conjugate ops j (norm_of ops i a)) (norm_of ops j a)
+  unfolding norm_of
+  norm_of-runs zero j a =
+      let whole : j + zero ≡ j = omega arith in
+      ap (λ n. norm_of ops n a) whole ∙ sym (one_times ops ring (norm_of ops j a)) ∙ ap (λ z. ops.times z (norm_of ops j a)) (sym (conjugate-one ops ring j))
+  norm_of-runs (suc i) j a =
+      let index : j + suc i ≡ suc (j + i) = omega arith in
+      ap (λ n. norm_of ops n a) index
+      ∙ ap (ops.times (norm_of ops (j + i) a)) (conjugate-runs ops i j a)
+      ∙ ap (λ z. ops.times z (conjugate ops j (conjugate ops i a))) (norm_of-runs i j a)
+      ∙ ring.times_assoc (conjugate ops j (norm_of ops i a)) (norm_of ops j a) (conjugate ops j (conjugate ops i a))
+      ∙ ap (ops.times (conjugate ops j (norm_of ops i a))) (ring.times_comm (norm_of ops j a) (conjugate ops j (conjugate ops i a)))
+      ∙ sym (ring.times_assoc (conjugate ops j (norm_of ops i a)) (conjugate ops j (conjugate ops i a)) (norm_of ops j a))
+      ∙ ap (λ z. ops.times z (norm_of ops j a)) (sym (conjugate-times ops ring j (norm_of ops i a) (conjugate ops i a)))
+
+  -- a run behind another, as code has it
+  pub norm_of-joined : (i j n : ℕ) (a p q s r : A) → j + i ≡ n → p ≡ norm_of ops i a → q ≡ conjugate ops j p → s ≡ norm_of ops j a → r ≡ ops.times q s → r ≡ norm_of ops n a
+  norm_of-joined i j n a p q s r index p_is q_is s_is r_is =
+      r_is ∙ ap (λ z. ops.times z s) (q_is ∙ ap (conjugate ops j) p_is) ∙ ap (ops.times (conjugate ops j (norm_of ops i a))) s_is ∙ sym (norm_of-runs i j a) ∙ ap (λ k. norm_of ops k a) index
+
+  -- one factor
+  pub norm_of-one : (a : A) → norm_of ops 1 a ≡ a
+  unfolding norm_of conjugate
+  norm_of-one a = one_times ops ring a
+
+  -- the factors of the square are the square of the factors
+  pub norm_of-square : (n : ℕ) (a : A) → norm_of ops n (ops.times a a) ≡ ops.times (norm_of ops n a) (norm_of ops n a)
+  unfolding norm_of
+  norm_of-square zero a = sym (ring.times_one ops.one)
+  norm_of-square (suc n) a =
+      ap (λ z. ops.times z (conjugate ops n (ops.times a a))) (norm_of-square n a)
+      ∙ ap (ops.times (ops.times (norm_of ops n a) (norm_of ops n a))) (conjugate-times ops ring n a a)
+      ∙ times_swap ops ring (norm_of ops n a) (norm_of ops n a) (conjugate ops n a) (conjugate ops n a)
 
   -- a ^ (2 ^ n) is a times a ^ (2 ^ n - 1)
   pub conjugate-norm : (n : ℕ) (a : A) → conjugate ops n a ≡ ops.times a (norm_of ops n a)

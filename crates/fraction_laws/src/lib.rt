@@ -1,0 +1,2 @@
+//! The laws of fractions whose terms are sums of odd powers, in `proofs/`.
+#![tactic(auto)]
