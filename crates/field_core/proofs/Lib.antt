@@ -1,8 +1,6 @@
-pub mod Blocks
-pub mod LaneLists
-pub mod LaneProducts
-pub mod Nibbles
+pub mod LinearMaps
+pub mod MapTables
 pub mod OddPowers
+pub mod PowerSums
 pub mod Reductions
-pub mod SumsOfProducts
 pub mod Windows

@@ -4,10 +4,6 @@ use Rattle.std.proofs.Math.Seq.{drop-cons}
 use Rattle.std.proofs.lemmas.List.{take_more_set, drop-set-lt, take-append-drop}
 use Rattle.std.proofs.Math.ListN.{drop_of_length-le}
 use Rattle.field_rules.specs.Ops.{Ops, IsRing, power, with_odd_powers}
-use Rattle.field_rules.specs.Elements.{product}
-use Rattle.field_laws.proofs.Rings.{product-comm}
-use Rattle.field_core.specs.declared.gf32.Gf32.{Gf32}
-use Rattle.field_core.specs.Gf32.{ops as operations, bits_of, same_bits}
 
 module _ {A : Type 0} (ops : Ops A) where
   -- the first power
@@ -41,7 +37,3 @@ module _ {A : Type 0} (ops : Ops A) where
   odd_powers_done e i xs le =
       let empty : drop i xs ≡ [] = drop_of_length-le xs {i = i} le in
       rw empty (rw empty at (take-append-drop i xs))
-
--- the element of the bits of a product
-pub times_of_bits : (a b r : Gf32) → bits_of r ≡ product 32 (bits_of b) (bits_of a) → r ≡ operations.times a b
-times_of_bits a b r e = same_bits r (operations.times a b) (e ∙ product-comm 32 (bits_of b) (bits_of a) b.small a.small)

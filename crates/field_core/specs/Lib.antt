@@ -1,2 +1,2 @@
 pub mod Gf32
-pub mod Tables
+pub mod LinearMaps

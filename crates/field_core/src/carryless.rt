@@ -1,22 +1,22 @@
 //! Products of polynomials over GF(2), and their remainders by `x ^ 32 + x ^ 7 + x ^ 3 + x ^ 2 + 1`.
 
 ghost use Rattle.std.specs.Prelude.{◌≡◌, ℕ, ◌<◌, ◌^◌, ◌/◌, ◌%◌, slice_index, bit_xor};
-ghost use Rattle.field_rules.specs.Elements.{carryless_product, remainder};
-ghost use Rattle.field_rules.specs.Elements.{product as product_of};
+ghost use Rattle.field_rules.specs.Elements.{IsProduct, remainder};
+ghost use Rattle.field_rules.specs.Elements.{carryless_product as carryless_product_of, product as product_of};
 
 use crate::nibble_tables::nibble_sums;
 
 /// The multiples of `a` by the 16 polynomials of 4 bits.
 fn multiples(a: u32) -> [u64; 16]
-    ensures { (k : ℕ) → k < 16 → slice_index result k ≡ carryless_product 4 a k }
+    ensures { (k : ℕ) → k < 16 → slice_index result k ≡ carryless_product_of 4 a k }
 {
     let one = a as u64;
     nibble_sums!(one, one * 2, one * 4, one * 8)
 }
 
 /// The product of two polynomials, by windows of 4 bits from the top.
-pub fn carryless(a: u32, b: u32) -> u64
-    ensures { result ≡ carryless_product 32 a b }
+pub fn carryless_product(a: u32, b: u32) -> u64
+    ensures { result ≡ carryless_product_of 32 a b }
 {
     let table = multiples(a);
     let mut sum: u64 = 0;
@@ -30,7 +30,7 @@ pub fn carryless(a: u32, b: u32) -> u64
 /// What may stand for `p` where only its remainder by the modulus counts: its terms from `x ^ 32` on are replaced by
 /// their product with the modulus's lower terms.
 fn folded(p: u64) -> u64
-    ensures { result ≡ bit_xor (p % 2 ^ 32) (carryless_product 8 (p / 2 ^ 32) 0x8D) }
+    ensures { result ≡ bit_xor (p % 2 ^ 32) (carryless_product_of 8 (p / 2 ^ 32) 0x8D) }
 {
     let high = p >> 32;
     (p & 0xffff_ffff) ^ (high ^ (high << 2) ^ (high << 3) ^ (high << 7))
@@ -45,9 +45,10 @@ pub fn reduce(p: u64) -> u32
 
 /// The product of the elements of these bits.
 pub fn product(a: u32, b: u32) -> u32
-    ensures { result ≡ product_of 32 a b }
+    ensures value { result ≡ product_of 32 a b }
+    ensures product { IsProduct 32 a b result }
 {
-    reduce(carryless(a, b))
+    reduce(carryless_product(a, b))
 }
 
 #[cfg(test)]

@@ -1,11 +1,13 @@
 //! What generic code asks of a finite field of characteristic 2.
 
-ghost use Rattle.std.specs.Prelude.{◌≡◌, ◌≢◌, ◌↔◌, ℕ, ◌<◌, ◌^◌, bit_xor, nat_eq, IsTrue, length, map};
+ghost use Rattle.std.specs.Prelude.{◌≡◌, ◌≢◌, ◌↔◌, ℕ, ◌<◌, ◌^◌, bit_xor, nat_eq, IsTrue, MatchOption, length, map};
 ghost use Rattle.std.specs.Ordering.{nat_cmp};
 ghost use Rattle.field_rules.specs.Ops.{Ops, IsRing, with_odd_powers};
 ghost use Rattle.field_rules.specs.Fields.{IsField, IsSeparatedByTrace, trace_of, with_multiple, dot_of};
 ghost use Rattle.field_rules.specs.Elements.{IsProduct};
+ghost use Rattle.field_rules.specs.Lists.{sums_of_both};
 ghost use Rattle.field_rules.specs.Numbered.{IsNumbered};
+ghost use Rattle.sketch_rules.specs.PowerSums.{odd_power_sums};
 
 /// A field of `2 ^ BITS` elements. Element n is the polynomial over GF(2) that has bit i of n as the coefficient of
 /// `x ^ i`.
@@ -83,6 +85,10 @@ pub trait Field: Copy + Eq + Ord {
         sum == Self::ONE
     }
 
+    /// A root of `y ^ 2 + y = self`, which is there for half of all elements, those of trace 0.
+    fn artin_schreier_root(self) -> Option<Self>
+        ensures { MatchOption result ((y : Self) → ops.plus (ops.times y y) y ≢ self) (λ y. ops.plus (ops.times y y) y ≡ self) };
+
     /// Adds `k` times the item of `x` at each index to the item of `acc` at that index.
     fn axpy(acc: &mut [Self], k: Self, x: &[Self])
         requires { length acc.old ≡ length x.now }
@@ -123,6 +129,15 @@ pub trait Field: Copy + Eq + Ord {
         for a in acc.iter_mut() {
             *a = a.add(power);
             power = power.mul(square);
+        }
+    }
+
+    /// Adds to the item at each index i the sum of the `(2i + 1)`-th powers of the elements.
+    fn power_sums_into(acc: &mut [Self], elements: &[Self])
+        ensures { acc.new ≡ sums_of_both ops acc.old (odd_power_sums ops elements.now 0 (length acc.old)) }
+    {
+        for e in elements {
+            Self::odd_powers_into(acc, *e);
         }
     }
 

@@ -1,17 +1,10 @@
-//! The field of 2 ^ 32 elements.
+//! The field of 2 ^ 32 elements, by one product at a time.
 
 ghost use Rattle.std.specs.Prelude.{◌≡◌, ℕ, ◌<◌, ◌^◌};
 
 use crate::Field;
-use crate::axpy::{axpy_by_lanes, axpy_by_multiples, axpy_by_products};
-use crate::carryless::{carryless, product, reduce};
-use crate::odd_powers::{add_by_multiples, add_by_products};
-
-/// From how many items on the multiples of a factor are worth making.
-const MULTIPLES_PAY_FROM: usize = 16;
-
-/// From how many items on they are worth making for sixteen items at once.
-const LANES_PAY_FROM: usize = 48;
+use crate::carryless::product;
+use crate::roots::artin_schreier_candidate;
 
 /// An element of the field of 2 ^ 32 elements, modulo `x ^ 32 + x ^ 7 + x ^ 3 + x ^ 2 + 1`. Bit i is the coefficient
 /// of `x ^ i`.
@@ -99,30 +92,12 @@ impl Field for Gf32 {
         }
     }
 
-    fn axpy(acc: &mut [Gf32], k: Gf32, x: &[Gf32]) {
-        if acc.len() < MULTIPLES_PAY_FROM {
-            axpy_by_products(acc, k, x)
-        } else if acc.len() < LANES_PAY_FROM {
-            axpy_by_multiples(acc, k, x)
+    fn artin_schreier_root(self) -> Option<Gf32> {
+        let y = Gf32::new(artin_schreier_candidate(self.bits));
+        if y.square().add(y) == self {
+            Some(y)
         } else {
-            axpy_by_lanes(acc, k, x)
-        }
-    }
-
-    // the carryless products are added up, and their sum is reduced once
-    fn dot(x: &[Gf32], y: &[Gf32]) -> Gf32 {
-        let mut sum: u64 = 0;
-        for i in 0..x.len() {
-            sum ^= carryless(x[i].bits, y[i].bits);
-        }
-        Gf32 { bits: reduce(sum) }
-    }
-
-    fn odd_powers_into(acc: &mut [Gf32], e: Gf32) {
-        if acc.len() < MULTIPLES_PAY_FROM {
-            add_by_products(acc, e)
-        } else {
-            add_by_multiples(acc, e)
+            None
         }
     }
 }

@@ -1,17 +1,17 @@
 //! Finite fields of characteristic 2: what generic code asks of a field, and the field of 2 ^ 32 elements.
 #![tactic(auto)]
 
-mod axpy;
 mod carryless;
 mod field;
 mod gf32;
-mod lane_multiples;
-mod lanes;
-mod multiples;
+mod linear_maps;
 mod nibble_tables;
-mod odd_powers;
+mod roots;
 #[cfg(test)]
 mod tests;
 
+pub use carryless::{carryless_product, product, reduce};
 pub use field::Field;
 pub use gf32::Gf32;
+pub use linear_maps::{NibbleTables, image, nibble};
+pub use roots::artin_schreier_candidate;

@@ -1,9 +1,8 @@
 //! Values that an independent program computed: inverses by Euclid's algorithm on polynomials, traces as those of the
 //! matrices of products.
 
-ghost use Rattle.std.specs.Prelude.{◌≡◌, ◌<◌, length};
+ghost use Rattle.std.specs.Prelude.{◌<◌};
 
-use crate::axpy::{axpy_by_lanes, axpy_by_multiples, axpy_by_products};
 use crate::{Field, Gf32};
 
 fn inverse(bits: u32) -> u32
@@ -62,60 +61,4 @@ fn lists_of_elements(rt: HostRuntime) {
         assert_eq!(rt; x[i].get(), *want, "at {i}");
     }
     assert_eq!(rt; sum.get(), 0xffff_fe6c);
-}
-
-/// Elements that differ.
-fn elements() -> [Gf32; 68] {
-    let mut items = [Gf32::new(0); 68];
-    let mut bits: u32 = 0x8000_0001;
-    for item in items.iter_mut() {
-        *item = Gf32::new(bits);
-        bits = bits.rotate_left(7) ^ 0x9e37_79b9;
-    }
-    items
-}
-
-// what polynomials call, through its bound
-fn add_multiple<F: Field>(acc: &mut [F], k: F, x: &[F])
-    requires { length acc.old ≡ length x.now }
-{
-    F::axpy(acc, k, x)
-}
-
-#[test]
-fn each_way_adds_the_same_multiple(rt: HostRuntime) {
-    let x = elements();
-    for len in 0..68 {
-        let k = x[67 - len];
-        let mut by_products = [Gf32::new(5); 68];
-        let mut by_multiples = by_products;
-        let mut by_lanes = by_products;
-        let mut through_the_bound = by_products;
-        axpy_by_products(&mut by_products[..len], k, &x[..len]);
-        axpy_by_multiples(&mut by_multiples[..len], k, &x[..len]);
-        axpy_by_lanes(&mut by_lanes[..len], k, &x[..len]);
-        add_multiple(&mut through_the_bound[..len], k, &x[..len]);
-        assert_eq!(rt; by_multiples, by_products, "at length {len}");
-        assert_eq!(rt; by_lanes, by_products, "at length {len}");
-        assert_eq!(rt; through_the_bound, by_products, "at length {len}");
-    }
-}
-
-fn sum_of_products<F: Field>(x: &[F], y: &[F]) -> F
-    requires { length x.now ≡ length y.now }
-{
-    F::dot(x, y)
-}
-
-#[test]
-fn a_sum_of_products_is_that_of_the_plain_ones(rt: HostRuntime) {
-    let x = elements();
-    for len in 0..68 {
-        let (front, back) = (&x[..len], &x[68 - len..]);
-        let mut sum = Gf32::new(0);
-        for i in 0..len {
-            sum = sum.add(front[i].mul(back[i]));
-        }
-        assert_eq!(rt; sum_of_products(front, back), sum, "at length {len}");
-    }
 }

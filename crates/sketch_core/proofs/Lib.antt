@@ -1,3 +1,2 @@
 pub mod AllSums
-pub mod Sums
 pub mod Both

@@ -59,7 +59,7 @@ impl<F: Field> Sketch<F> {
         ensures out_of_range { ¬ IsCapacity capacity → result ≡ Err (CapacityOutOfRange capacity) }
     {
         let mut sums = zeros(alloc, capacity)?;
-        add_all(sums.as_mut_slice(), elements);
+        F::power_sums_into(sums.as_mut_slice(), elements);
         Ok(Sketch { sums })
     }
 
@@ -169,16 +169,6 @@ fn zeros<F: Field>(alloc: Global, capacity: usize) -> Result<Vec<F>, SketchFault
         return Err(SketchFault::CapacityOutOfRange(capacity));
     }
     Ok(vec![in alloc; F::ZERO; capacity]?)
-}
-
-/// Adds the odd powers of each element to the sums of the empty set.
-fn add_all<F: Field>(sums: &mut [F], elements: &[F])
-    requires { sums.old ≡ replicate (length sums.old) F.ops.zero }
-    ensures { sums.new ≡ sketch_by F.ops elements.now (length sums.old) }
-{
-    for e in elements {
-        F::odd_powers_into(sums, *e);
-    }
 }
 
 /// Adds each item to the one at its index.

@@ -9,26 +9,27 @@ ghost use Rattle.line_text.specs.Gives.{IsOutcome};
 use crate::reading::{line_number, read};
 use crate::repeats::first_repeat;
 use base_types::{Kind, TextFault};
-use field_core::{Field, Gf32};
+use clmul_lanes::Lane32;
+use field_core::Field;
 use line_text::ReadStop;
 use std::alloc::{AllocError, Global};
 
 /// The field elements of these numbers, in order.
-fn field_elements(alloc: Global, numbers: &[u32]) -> Result<Vec<Gf32>, AllocError>
-    ensures { IfOk result (λ elements. map ⟦<Gf32 as Field>⟧.bits_of elements.items ≡ numbers.now) }
+fn field_elements(alloc: Global, numbers: &[u32]) -> Result<Vec<Lane32>, AllocError>
+    ensures { IfOk result (λ elements. map ⟦<Lane32 as Field>⟧.bits_of elements.items ≡ numbers.now) }
 {
     let mut elements = Vec::with_capacity(alloc, numbers.len())?;
     for number in numbers {
-        elements.push(Gf32::new(*number))?;
+        elements.push(Lane32::new(*number))?;
     }
     Ok(elements)
 }
 
 /// The set that the text lists, in the order of its lines. The first faulty line is named, whichever fault it has.
-pub fn set_of(alloc: Global, text: &[u8]) -> Result<Vec<Gf32>, ReadStop>
-    ensures gives { IsOutcome (λ es. map ⟦<Gf32 as Field>⟧.bits_of es.items) result (set_in text.now) }
-    ensures elements { IfOk result (λ es. All (λ e. (0 < e) × (e < 2 ^ 32)) (map ⟦<Gf32 as Field>⟧.bits_of es.items)) }
-    ensures distinct { IfOk result (λ es. AreDistinct (map ⟦<Gf32 as Field>⟧.bits_of es.items)) }
+pub fn set_of(alloc: Global, text: &[u8]) -> Result<Vec<Lane32>, ReadStop>
+    ensures gives { IsOutcome (λ es. map ⟦<Lane32 as Field>⟧.bits_of es.items) result (set_in text.now) }
+    ensures elements { IfOk result (λ es. All (λ e. (0 < e) × (e < 2 ^ 32)) (map ⟦<Lane32 as Field>⟧.bits_of es.items)) }
+    ensures distinct { IfOk result (λ es. AreDistinct (map ⟦<Lane32 as Field>⟧.bits_of es.items)) }
 {
     let reading = read(alloc, text)?;
     if let Some(index) = first_repeat(alloc, reading.numbers.as_slice())? {

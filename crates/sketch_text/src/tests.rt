@@ -1,6 +1,6 @@
 use super::{element_of, set_of};
 use base_types::{Kind, TextFault};
-use field_core::Gf32;
+use clmul_lanes::Lane32;
 use line_text::ReadStop;
 
 #[test]
@@ -8,7 +8,7 @@ fn lines_end_at_lf_or_cr_and_lf(rt: HostRuntime) {
     let set = set_of(rt.alloc(), b"0000000a\r\n\n\r\nFFFFFFFf").expect(&rt, "memory");
     assert_eq!(rt;
         set.as_slice(),
-        [Gf32::new(10), Gf32::new(0xffff_ffff)].as_slice()
+        [Lane32::new(10), Lane32::new(0xffff_ffff)].as_slice()
     );
     let empty = set_of(rt.alloc(), b"\n\r\n").expect(&rt, "memory");
     assert!(rt; empty.is_empty());

@@ -1,5 +1,5 @@
 use Rattle.std.proofs.Common.{◌≡◌, map, take}
-use Rattle.field_core.specs.Gf32.{bits_of}
+use Rattle.clmul_lanes.specs.Lane32.{bits_of}
 use Rattle.sketch_text.proofs.set.field_elements.Given as goal
 
 abbrev pub invariant-loop-number : goal.invariant-loop-number

@@ -4,7 +4,7 @@ use Rattle.std.specs.List.{All}
 use Rattle.std.proofs.lemmas.Option.{MatchOption-at_none, MatchOption-at_some}
 use Rattle.base_types.specs.declared.text.Kind.TheVariants as kind
 use Rattle.field_rules.specs.Lists.{AreDistinct}
-use Rattle.field_core.specs.Gf32.{bits_of}
+use Rattle.clmul_lanes.specs.Lane32.{bits_of}
 use Rattle.line_rules.specs.Lines.{NumberedLine, lines_of}
 use Rattle.sketch_text.specs.Readings.{elements_before}
 use Rattle.sketch_text.specs.Repeats.{IsFirstRepeat}

@@ -1,7 +1,7 @@
 use Rattle.std.proofs.Common.{◌≡◌, length, drop, ◌∙◌, ap, arith}
 use Rattle.field_rules.specs.Ops.{with_odd_powers}
 use Rattle.sketch_core.proofs.Both.{written_back}
-use Rattle.sketch_core.proofs.Sums.{odd_power_sums-more}
+use Rattle.field_core.proofs.PowerSums.{odd_power_sums-more}
 use Rattle.sketch_core.proofs.sketch.Sketch.toggle.Goals as goal
 
 pub returns-clause-sums : goal.returns-clause-sums

@@ -1,0 +1,15 @@
+pub mod Added
+pub mod Blocks
+pub mod ByteUp
+pub mod Coefficients
+pub mod FractionSteps
+pub mod FourLanes
+pub mod LaneLists
+pub mod LaneProducts
+pub mod Nibbles
+pub mod OddBlocks
+pub mod PlaneLists
+pub mod Powers
+pub mod RowFactors
+pub mod SumsOfProducts
+pub mod TableRows

@@ -1,0 +1,32 @@
+use Rattle.std.proofs.Common.{◌<◌, ◌≤◌, [], ◌∷◌, length, sym, ap, ◌∙◌, arith}
+use Rattle.field_core.proofs.OddPowers.{power_one, odd_power_next}
+use Rattle.clmul_lanes.specs.Lane32.{ops, ring}
+use Rattle.clmul_lanes.proofs.Added.{none_added, one_added, all_added}
+use Rattle.clmul_lanes.proofs.FractionSteps.{four_added}
+use Rattle.clmul_lanes.proofs.small_sums.add_four.Goals as goal
+
+pub loop-a-init : goal.loop-a-init
+loop-a-init c = record {
+  d_is = sym (power_one ops ring c.args.d);
+  e_is = sym (power_one ops ring c.args.e);
+  f_is = sym (power_one ops ring c.args.f);
+  g_is = sym (power_one ops ring c.args.g);
+  added = none_added ops (c.args.d ∷ c.args.e ∷ c.args.f ∷ c.args.g ∷ []) c.args.acc.now;
+}
+
+pub loop-a-preserved : goal.loop-a-preserved
+loop-a-preserved c = let inside : c.loop-a.a-index < length c.loop-a.acc = omega arith in record {
+  d_is = c.mul-d_power.ensures.times ∙ odd_power_next ops ring c.args.d c.loop-a.d_power c.mul-d_square.result c.loop-a.a-index c.loop-a.invariant.d_is c.mul-d_square.ensures.times;
+  e_is = c.mul-e_power.ensures.times ∙ odd_power_next ops ring c.args.e c.loop-a.e_power c.mul-e_square.result c.loop-a.a-index c.loop-a.invariant.e_is c.mul-e_square.ensures.times;
+  f_is = c.mul-f_power.ensures.times ∙ odd_power_next ops ring c.args.f c.loop-a.f_power c.mul-f_square.result c.loop-a.a-index c.loop-a.invariant.f_is c.mul-f_square.ensures.times;
+  g_is = c.mul-g_power.ensures.times ∙ odd_power_next ops ring c.args.g c.loop-a.g_power c.mul-g_square.result c.loop-a.a-index c.loop-a.invariant.g_is c.mul-g_square.ensures.times;
+  added = one_added ops (c.args.d ∷ c.args.e ∷ c.args.f ∷ c.args.g ∷ []) c.loop-a.a-index c.args.acc.now c.loop-a.acc c.add-in-loop-a-3.result inside
+      (four_added c.args.d c.args.e c.args.f c.args.g c.loop-a.d_power c.loop-a.e_power c.loop-a.f_power c.loop-a.g_power c.add-in-loop-a-3.result c.loop-a.a-index c.loop-a.acc c.a-item.result inside
+      c.loop-a.invariant.d_is c.loop-a.invariant.e_is c.loop-a.invariant.f_is c.loop-a.invariant.g_is
+      (c.add-in-loop-a-3.ensures.sum ∙ ap (λ z. ops.plus z c.loop-a.g_power) (c.add-in-loop-a-2.ensures.sum ∙ ap (λ z. ops.plus z c.loop-a.f_power) (c.add-in-loop-a.ensures.sum ∙ ap (λ z. ops.plus z c.loop-a.e_power) c.add.ensures.sum))))
+      c.loop-a.invariant.added;
+}
+
+pub returns : goal.returns
+returns c = let past : length c.args.acc.now ≤ c.loop-a.a-index = omega arith in
+    all_added ops (c.args.d ∷ c.args.e ∷ c.args.f ∷ c.args.g ∷ []) c.loop-a.a-index c.args.acc.now c.loop-a.acc past c.loop-a.invariant.added

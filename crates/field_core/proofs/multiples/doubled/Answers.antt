@@ -1,6 +1,0 @@
-use Rattle.std.proofs.Common.{rules, ◌^◌, ◌<◌}
-use Rattle.field_core.proofs.Nibbles.{doubled_is}
-use Rattle.field_core.proofs.multiples.doubled.Goals as goal
-
-pub returns : goal.returns
-returns c = let fits : c.args.a < 2 ^ 32 = search rules in doubled_is c.args.a fits

@@ -1,0 +1,58 @@
+//! Roots of `y ^ 2 + y = c` in the field of 2 ^ 32 elements.
+
+ghost use Rattle.std.specs.Prelude.{◌≡◌};
+ghost use Rattle.field_laws.specs.Certified.{bit_selection};
+ghost use Rattle.field_laws.proofs.Certified32.{certificate_32};
+
+use crate::linear_maps::{NibbleTables, image};
+
+/// What undoes `y ^ 2 + y` but for the lowest bit, by nibbles. `bench/tables.py` prints the words of the powers of x.
+const ROOTS: NibbleTables = [
+    [
+        0x00000000, 0x54fd1264, 0xc26fcd64, 0x9692df00, 0xc26fcd66, 0x9692df02, 0x00000002,
+        0x54fd1266, 0x238a7462, 0x77776606, 0xe1e5b906, 0xb518ab62, 0xe1e5b904, 0xb518ab60,
+        0x238a7460, 0x77776604,
+    ],
+    [
+        0x00000000, 0xc26fcd62, 0x973bccaa, 0x555401c8, 0x238a746a, 0xe1e5b908, 0xb4b1b8c0,
+        0x76de75a2, 0x77766712, 0xb519aa70, 0xe04dabb8, 0x222266da, 0x54fc1378, 0x9693de1a,
+        0xc3c7dfd2, 0x01a812b0,
+    ],
+    [
+        0x00000000, 0xc26fcd72, 0xc1bdd556, 0x03d21824, 0x973bcc8a, 0x555401f8, 0x568619dc,
+        0x94e9d4ae, 0x572a094c, 0x9545c43e, 0x9697dc1a, 0x54f81168, 0xc011c5c6, 0x027e08b4,
+        0x01ac1090, 0xc3c3dde2,
+    ],
+    [
+        0x00000000, 0x238a742a, 0xb693be84, 0x9519caae, 0x77766792, 0x54fc13b8, 0xc1e5d916,
+        0xe26fad3c, 0x9555c03e, 0xb6dfb414, 0x23c67eba, 0x004c0a90, 0xe223a7ac, 0xc1a9d386,
+        0x54b01928, 0x773a6d02,
+    ],
+    [
+        0x00000000, 0xc26fcc72, 0x568419f8, 0x94ebd58a, 0xc1bdd756, 0x03d21b24, 0x9739ceae,
+        0x555602dc, 0x96c3d2ca, 0x54ac1eb8, 0xc047cb32, 0x02280740, 0x577e059c, 0x9511c9ee,
+        0x01fa1c64, 0xc395d016,
+    ],
+    [
+        0x00000000, 0x973bc88a, 0x54861fdc, 0xc3bdd756, 0x572a014c, 0xc011c9c6, 0x03ac1e90,
+        0x9497d61a, 0xb79badc4, 0x20a0654e, 0xe31db218, 0x74267a92, 0xe0b1ac88, 0x778a6402,
+        0xb437b354, 0x230c7bde,
+    ],
+    [
+        0x00000000, 0x238a642a, 0x00000000, 0x238a642a, 0xb6939e84, 0x9519faae, 0xb6939e84,
+        0x9519faae, 0xc519fa86, 0xe6939eac, 0xc519fa86, 0xe6939eac, 0x738a6402, 0x50000028,
+        0x738a6402, 0x50000028,
+    ],
+    [
+        0x00000000, 0x77762792, 0xb9b99fe0, 0xcecfb872, 0x9555403e, 0xe22367ac, 0x2cecdfde,
+        0x5b9af84c, 0x377627ba, 0x40000028, 0x8ecfb85a, 0xf9b99fc8, 0xa2236784, 0xd5554016,
+        0x1b9af864, 0x6cecdff6,
+    ],
+];
+
+/// A root of `y ^ 2 + y = c`, all as the bits of elements, where there is one. Otherwise any element.
+pub fn artin_schreier_candidate(c: u32) -> u32
+    ensures { result ≡ bit_selection 0 certificate_32.table c }
+{
+    image(&ROOTS, c)
+}
