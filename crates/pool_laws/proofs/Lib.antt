@@ -5,3 +5,4 @@ pub mod Capacity
 pub mod Insertions
 pub mod Written
 pub mod Read
+pub mod Singles
