@@ -51,7 +51,8 @@ header_judged true true false offset magic h behind f n em es ew e = absurd (cc)
 header_judged true true true offset magic h behind f n em es ew e =
     payload_judged (nat_le h.size (length behind)) offset magic h behind f n ((bytes_eq-Decides magic h.magic).0 em) es (leb-true h.size PAYLOAD_LIMIT ew) refl e
 
-length_judged : (long : Bool) (magic : List ℕ) (offset : ℕ) (bytes : List ℕ) (f : Frame) (n : ℕ) → nat_le 24 (length bytes) ≡ long → front_by_length long magic offset bytes ≡ WholeFrame f n
+-- the tests that a whole front has passed are those of the header in front
+pub length_judged : (long : Bool) (magic : List ℕ) (offset : ℕ) (bytes : List ℕ) (f : Frame) (n : ℕ) → nat_le 24 (length bytes) ≡ long → front_by_length long magic offset bytes ≡ WholeFrame f n
     → (24 ≤ length bytes) × Judged magic (header_of bytes) (drop 24 bytes) f n
 unfolding front_by_length
 length_judged false magic offset bytes f n long e = absurd (cc)

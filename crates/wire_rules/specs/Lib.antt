@@ -1,5 +1,6 @@
 pub mod Commands
 pub mod Layout
+pub mod Lent
 pub mod Limits
 pub mod Reading
 pub mod Stream

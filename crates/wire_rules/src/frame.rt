@@ -10,6 +10,14 @@ pub struct Frame {
     pub payload: Bytes,
 }
 
+/// A frame whose payload is lent, by the bytes of a stream or by who sends it.
+#[derive(Clone, Copy, Debug)]
+pub struct FrameRef<'a> {
+    /// Printable bytes, and then NUL up to 12 bytes.
+    pub command: [u8; 12],
+    pub payload: &'a [u8],
+}
+
 /// Why a stream has no frame at an offset. `at` is the offset in the whole stream of the frame's first byte.
 #[derive(Clone, Copy, Debug, PartialEq, Eq)]
 pub enum FrameFault {

@@ -10,7 +10,7 @@ mod name;
 mod phase;
 
 pub use faults::{PayloadFault, PayloadKind};
-pub use frame::{Frame, FrameFault};
+pub use frame::{Frame, FrameFault, FrameRef};
 pub use limits::{AGENT_LIMIT, HEADER_LEN, LIST_LIMIT, PAYLOAD_LIMIT};
 pub use message::{InvEntry, Invs, Message, Outs, VersionMsg};
 pub use name::Name;
