@@ -1,0 +1,6 @@
+pub mod Members
+pub mod Groups
+pub mod Invariant
+pub mod Sums
+pub mod Pairs
+pub mod Changes
