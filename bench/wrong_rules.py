@@ -1,12 +1,12 @@
 #!/usr/bin/env python3
-"""Makes one rule of the protocol wrong at a time, and shows that a law of two nodes no longer has a proof.
+"""Makes one rule or promise of the protocol wrong at a time, and shows that a law of two nodes no longer has a proof.
 
-  bench/wrong_rules.py [--only WORD] [--keep]
+  bench/wrong_rules.py [--only WORD] [--promises] [--keep]
 
-Each row changes one definition of `node_rules` in a copy of the crates in a temporary folder, where worked examples are
-left out, so that laws alone judge. Then the crates of laws are checked, lowest first, up to the first one that fails. A row
-has the rule as it is made wrong, the crate whose proofs fail first, and the first lemma that does. A row that no crate
-refuses is marked, and the script ends with 1.
+Each row changes one definition in a copy of the crates in a temporary folder, where worked examples are left out, so that
+laws alone judge: a rule of `node_rules`, or a promise of `pair_rules`, which then says what isn't so. Then the crates of
+laws are checked, lowest first, up to the first one that fails. A row has the rule or promise as it is made wrong, the crate
+whose proofs fail first, and the first lemma that does. A row that no crate refuses is marked, and the script ends with 1.
 
 It takes about a minute a row, and is no part of the gate: the gate's edits change a crate's own files alone.
 """
@@ -69,6 +69,24 @@ RULES = [
      "out = message.ReconcilDiff false [] ∷ inv_of (ids_of r.snapshot);"),
 ]
 
+# the same for promises, in pair_rules/specs: at least one of each law
+PROMISES = [
+    ("a difference fits that only the last sketch of a round could hold", "Rounds",
+     "capacity_by (Some n) c = capacity_after c n", "capacity_by (Some n) c = capacity_after c 2"),
+    ("what a pool gained was added at the other node, or is in its pool", "Gains",
+     "(additions_to_a script) new.b.pool", "(additions_to_b script) new.b.pool"),
+    ("an accepter ends for want of room alone", "Ends",
+     "(e ≡ end.PoolFull) ⊎ ((short : ℕ) × (e ≡ end.UnknownShortId short) × HasWrongAnswer a b)", "e ≡ end.PoolFull"),
+    ("a side announces nothing of a round that fell back", "Rounds",
+     "announced_by None keys r = r.snapshot", "announced_by None keys r = []"),
+    ("an accepter has made its report as soon as the opener has", "Reports",
+     "few : length coming ≤ 1", "few : length coming ≤ 0"),
+    ("a round takes at most 8 messages, and two for each extension", "Messages",
+     "round_messages level = 9 + 2 * level", "round_messages level = 8 + 2 * level"),
+    ("15 pairs of whole deliveries leave nothing on the way", "Deliveries",
+     "script).world 16", "script).world 15"),
+]
+
 
 def names_of(crate, folder):
     """The crates that a crate stands on, and those that these stand on."""
@@ -116,10 +134,12 @@ def main():
     copy_of(folder)
     if first_failure(folder):
         sys.exit("the laws aren't proved as they are")
-    for what, module, old, new in RULES:
+    rows = [] if "--promises" in sys.argv else [("node_rules", *row) for row in RULES]
+    rows += [("pair_rules", *row) for row in PROMISES]
+    for crate, what, module, old, new in rows:
         if only not in what:
             continue
-        path = os.path.join(folder, "crates", "node_rules", "specs", module + ".antt")
+        path = os.path.join(folder, "crates", crate, "specs", module + ".antt")
         text = open(path).read()
         if text.count(old) != 1:
             sys.exit(f"{what}: what is to be changed stands {text.count(old)} times in {module}")

@@ -8,12 +8,12 @@ use Rattle.sketch_laws.proofs.Differences.{length-sketch_at, of_difference}
 use Rattle.sketch_laws.proofs.Merging.{sketch_sum-sketches}
 use Rattle.sketch_bytes.proofs.Sketches.{sketch_small}
 use Rattle.trace_roots.proofs.Decoded.{differs}
-use Rattle.field_core.specs.Gf32.{bits_of, field, numbered, ops, ring}
+use Rattle.clmul_lanes.specs.Lane32.{bits_of, field, numbered, ops, ring}
 use Rattle.line_rules.specs.Lines.{line}
 use Rattle.sketch_text_rules.specs.Elements.{IsSet, set_text}
 use Rattle.sketch_text_rules.specs.Limits.{input_limit}
 use Rattle.sketch_text_rules.proofs.Written.{set_in-text}
-use Rattle.erlay_cli.specs.declared.command.Command.TheVariants as command
+use Rattle.command_words.specs.declared.command.Command.TheVariants as command
 use Rattle.erlay_cli.specs.declared.status.Status.TheVariants as status
 use Rattle.erlay_cli.specs.Answers.{Answer, answer_to, decode_answer, set_answer, make_answer, sketch_answer, merge_answer}
 use Rattle.erlay_cli.proofs.Endings.{short_answer}

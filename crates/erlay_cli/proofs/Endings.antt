@@ -1,10 +1,7 @@
 -- What the ends of a run say where the input tells its bytes.
-use Rattle.std.proofs.Common.{◌≡◌, ◌≢◌, ℕ, ◌<◌, ◌≤◌, ◌⊎◌, inl, inr, List, [], ◌∷◌, ◌++◌, length, refl, sym, ap, ◌∙◌, subst, arith, length-append, Ok, Err, Result}
+use Rattle.std.proofs.Common.{◌≡◌, ◌≢◌, ℕ, ◌<◌, ◌≤◌, ◌⊎◌, inl, inr, List, ◌++◌, length, refl, sym, ap, ◌∙◌, subst, arith, length-append, Ok, Err, Result}
 use Rattle.std.proofs.lemmas.Bool.{cases_lt, le-ltb, lt-ltb}
-use Rattle.std.proofs.lemmas.Fmt.{decimal_injective}
 use Rattle.std.proofs.lemmas.List.{append-nil}
-use Rattle.std.specs.Prelude.{codes}
-use Rattle.std.specs.Fmt.{decimal}
 use Rattle.std.specs.Io.KnownBytes.{Appends, Consumes}
 use Rattle.std.specs.declared.option.Option.{Option}
 use Rattle.std.specs.declared.option.Option.TheVariants.{Some, None}
@@ -14,34 +11,19 @@ use Rattle.line_rules.specs.Lines.{line}
 use Rattle.sketch_text_rules.specs.Elements.{set_in}
 use Rattle.sketch_text_rules.specs.Faults.{too_long_text}
 use Rattle.sketch_text_rules.specs.Limits.{input_limit}
+use Rattle.protocol_text_rules.specs.Works.{StreamStop, ids_in, ids_text, messages_in, with_text}
+use Rattle.stream_text.specs.Outcomes.{shown_lines}
 use Rattle.erlay_base.specs.Causes.{HasRisen}
 use Rattle.erlay_cli.specs.SketchLines.{sketch_in, sum_in}
-use Rattle.erlay_cli.specs.declared.command.Command.{Command}
-use Rattle.erlay_cli.specs.declared.command.Command.TheVariants as command
+use Rattle.command_words.specs.declared.command.Command.{Command}
+use Rattle.command_words.specs.declared.command.Command.TheVariants as command
 use Rattle.erlay_cli.specs.declared.status.Status.{Status}
 use Rattle.erlay_cli.specs.declared.status.Status.TheVariants as status
-use Rattle.erlay_cli.specs.Words.{HasForm, HasCommand}
+use Rattle.command_words.specs.Words.{HasForm, HasCommand}
+use Rattle.command_words.proofs.Forms.{one_form}
 use Rattle.erlay_cli.specs.Outside.{Observation, HasRead, IsWholeOrTooLong}
-use Rattle.erlay_cli.specs.Answers.{Answer, HasAnswer, answer_to, decode_answer, set_answer, make_answer, merge_answer, answer_within_limit}
+use Rattle.erlay_cli.specs.Answers.{Answer, HasAnswer, answer_to, decode_answer, set_answer, make_answer, merge_answer, stream_answer, text_answer, answer_within_limit}
 use Rattle.erlay_cli.specs.Ends.{IsEnding, IsWritten, IsAnswer, IsAnswerTo}
-
--- two names
-other_name : codes "merge" ∷ [] ≡ codes "decode" ∷ [] → ⊥
-other_name same = cc same
-
--- words ask for one command
-pub one_form : (words : List (List ℕ)) (c d : Command) → HasForm words c → HasForm words d → c ≡ d
-one_form words command.Merge command.Merge is_m is_n = λ i. command.Merge
-one_form words command.Decode command.Decode is_m is_n = λ i. command.Decode
-one_form words command.Merge command.Decode is_m is_n = absurd (other_name (sym is_m ∙ is_n))
-one_form words command.Decode command.Merge is_m is_n = absurd (other_name (sym is_n ∙ is_m))
-one_form words (command.Make m) command.Merge is_m is_n = absurd (let lens : 2 ≡ 1 = ap length (sym is_m.0 ∙ is_n) in omega arith)
-one_form words (command.Make m) command.Decode is_m is_n = absurd (let lens : 2 ≡ 1 = ap length (sym is_m.0 ∙ is_n) in omega arith)
-one_form words command.Merge (command.Make n) is_m is_n = absurd (let lens : 1 ≡ 2 = ap length (sym is_m ∙ is_n.0) in omega arith)
-one_form words command.Decode (command.Make n) is_m is_n = absurd (let lens : 1 ≡ 2 = ap length (sym is_m ∙ is_n.0) in omega arith)
-one_form words (command.Make m) (command.Make n) is_m is_n =
-    let same : decimal m ≡ decimal n = cc (is_m.0, is_n.0) in
-    ap command.Make (decimal_injective m n (omega (arith, is_m.1)) (omega (arith, is_n.1)) same)
 
 -- the bytes that were read, where the input told its bytes: all of them, or more than the limit of them
 pub all_or_too_long : (text input : List ℕ) (left : Option (List ℕ)) → Consumes (Some text) left input → IsWholeOrTooLong input left
@@ -77,6 +59,7 @@ module _ (words : List (List ℕ)) (old new : Observation) (c : Command) (text :
   pub answer_told : (end : Status) (t : List ℕ) → IsAnswer words old new end t → IsAnswerTo c text end t
   answer_told status.Ok t answer = answer_read status.Ok t answer
   answer_told (status.BadInput place k) t answer = answer_read (status.BadInput place k) t answer
+  answer_told (status.BadStream offset k) t answer = answer_read (status.BadStream offset k) t answer
   answer_told status.NoSet t answer = answer_read status.NoSet t answer
   answer_told (status.TooLong limit) t answer = answer_read (status.TooLong limit) t answer
   answer_told status.Usage t answer = absurd (answer.0 c form)
@@ -91,6 +74,7 @@ written_whole Answer old new status.WriteFault text none answer wrote quiet = ab
 written_whole Answer old new status.Ok text none answer wrote quiet = (text, answer, wrote, quiet)
 written_whole Answer old new status.Usage text none answer wrote quiet = (text, answer, wrote, quiet)
 written_whole Answer old new (status.BadInput place k) text none answer wrote quiet = (text, answer, wrote, quiet)
+written_whole Answer old new (status.BadStream offset k) text none answer wrote quiet = (text, answer, wrote, quiet)
 written_whole Answer old new status.NoSet text none answer wrote quiet = (text, answer, wrote, quiet)
 written_whole Answer old new (status.TooLong limit) text none answer wrote quiet = (text, answer, wrote, quiet)
 written_whole Answer old new status.ReadFault text none answer wrote quiet = (text, answer, wrote, quiet)
@@ -121,10 +105,20 @@ decoded_ends : (r : Result (List ℕ) TextFault) → ((decode_answer r).status �
 decoded_ends (Ok sums) = found_ends (answer_of sums)
 decoded_ends (Err f) = (λ e. cc, λ e. cc)
 
+text_ends : (r : Result (List ℕ) TextFault) → ((text_answer r).status ≢ status.WriteFault) × ((text_answer r).status ≢ status.Usage)
+text_ends (Ok text) = (λ e. cc, λ e. cc)
+text_ends (Err f) = (λ e. cc, λ e. cc)
+
+stream_ends : (r : Result (List ℕ) StreamStop) → ((stream_answer r).status ≢ status.WriteFault) × ((stream_answer r).status ≢ status.Usage)
+stream_ends (Ok text) = (λ e. cc, λ e. cc)
+stream_ends (Err stop) = (λ e. cc, λ e. cc)
+
 work_ends : (c : Command) (input : List ℕ) → ((answer_within_limit c input).status ≢ status.WriteFault) × ((answer_within_limit c input).status ≢ status.Usage)
 work_ends (command.Make capacity) input = made_ends capacity (set_in input)
 work_ends command.Merge input = summed_ends (sum_in input)
 work_ends command.Decode input = decoded_ends (sketch_in input)
+work_ends (command.Ids salt other) input = text_ends (with_text (ids_text salt other) (ids_in input))
+work_ends command.Show input = stream_ends (shown_lines (messages_in input))
 
 answer_ends : (c : Command) (input : List ℕ) → ((answer_to c input).status ≢ status.WriteFault) × ((answer_to c input).status ≢ status.Usage)
 answer_ends c input = elim (cases_lt input_limit (length input)) [

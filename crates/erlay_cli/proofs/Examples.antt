@@ -10,9 +10,9 @@ use Rattle.sketch_rules.specs.PowerSums.{power_sum, odd_power_sums}
 use Rattle.sketch_rules.specs.Sketches.{sums_in}
 use Rattle.sketch_rules.specs.Answers.{IsAscending, answer_of}
 use Rattle.sketch_laws.proofs.Unique.{answer_at-is}
-use Rattle.field_core.specs.Gf32.{bits_of, field, numbered as gf_numbered, ops, ring}
+use Rattle.clmul_lanes.specs.Lane32.{bits_of, field, numbered as gf_numbered, ops, ring}
 use Rattle.line_rules.specs.Lines.{line, lines, numbered_lines}
-use Rattle.erlay_cli.specs.declared.command.Command.TheVariants as command
+use Rattle.command_words.specs.declared.command.Command.TheVariants as command
 use Rattle.erlay_cli.specs.declared.status.Status.TheVariants as status
 use Rattle.erlay_cli.specs.SketchLines.{sketch_in, sum_in}
 use Rattle.erlay_cli.specs.Answers.{decode_answer, set_answer, answer_within_limit}

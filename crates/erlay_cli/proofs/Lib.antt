@@ -1,7 +1,6 @@
 pub mod Differences
 pub mod Endings
 pub mod Examples
-pub mod Numbers
 pub mod Sets
 pub mod Spelled
 pub mod Texts

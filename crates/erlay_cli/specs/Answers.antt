@@ -7,9 +7,12 @@ use Rattle.line_rules.specs.Lines.{line}
 use Rattle.sketch_text_rules.specs.Elements.{no_set_text, set_in, set_text}
 use Rattle.sketch_text_rules.specs.Faults.{bad_input_text, too_long_text}
 use Rattle.sketch_text_rules.specs.Limits.{input_limit}
+use Rattle.protocol_text_rules.specs.Ends.{bad_stream_text}
+use Rattle.protocol_text_rules.specs.Works.{StreamStop, ids_in, ids_text, messages_in, with_text}
+use Rattle.stream_text.specs.Outcomes.{shown_lines}
 use Rattle.erlay_cli.specs.SketchLines.{sketch_in, sum_in}
-use Rattle.erlay_cli.specs.declared.command.Command.{Command}
-use Rattle.erlay_cli.specs.declared.command.Command.TheVariants as command
+use Rattle.command_words.specs.declared.command.Command.{Command}
+use Rattle.command_words.specs.declared.command.Command.TheVariants as command
 use Rattle.erlay_cli.specs.declared.report.Report.{Report}
 use Rattle.erlay_cli.specs.declared.status.Status.{Status}
 use Rattle.erlay_cli.specs.declared.status.Status.TheVariants as status
@@ -46,11 +49,26 @@ abbrev pub decode_answer : Result (List ℕ) TextFault → Answer
 decode_answer (Ok sums) = set_answer (answer_of sums)
 decode_answer (Err f) = fault_answer f
 
+-- the text of the lines that the input lists, or its first fault
+abbrev pub text_answer : Result (List ℕ) TextFault → Answer
+text_answer (Ok text) = record { status = status.Ok; text = text }
+text_answer (Err f) = fault_answer f
+
+abbrev pub stop_answer : StreamStop → Answer
+stop_answer stop = record { status = status.BadStream stop.offset stop.kind; text = line (bad_stream_text stop.offset stop.kind) }
+
+-- the text of the frames of the input, or its first fault
+abbrev pub stream_answer : Result (List ℕ) StreamStop → Answer
+stream_answer (Ok text) = record { status = status.Ok; text = text }
+stream_answer (Err stop) = stop_answer stop
+
 -- what a command answers to an input within the limit
 abbrev pub answer_within_limit : Command → List ℕ → Answer
 answer_within_limit (command.Make capacity) input = make_answer capacity (set_in input)
 answer_within_limit command.Merge input = merge_answer (sum_in input)
 answer_within_limit command.Decode input = decode_answer (sketch_in input)
+answer_within_limit (command.Ids salt other) input = text_answer (with_text (ids_text salt other) (ids_in input))
+answer_within_limit command.Show input = stream_answer (shown_lines (messages_in input))
 
 -- what a command answers to an input
 abbrev pub answer_to : Command → List ℕ → Answer

@@ -7,6 +7,7 @@ abbrev pub code_of : Status → ℕ
 code_of status.Ok = 0
 code_of status.Usage = 1
 code_of (status.BadInput number k) = 2
+code_of (status.BadStream offset k) = 2
 code_of status.NoSet = 3
 code_of status.ReadFault = 5
 code_of status.WriteFault = 6

@@ -6,11 +6,11 @@ use Rattle.erlay_base.specs.Moves.{HasWrittenPart}
 use Rattle.line_rules.specs.Lines.{line}
 use Rattle.sketch_text_rules.specs.Faults.{usage_text, read_fault_text, out_of_memory_text}
 use Rattle.sketch_text_rules.specs.Limits.{input_limit}
-use Rattle.erlay_cli.specs.declared.command.Command.{Command}
+use Rattle.command_words.specs.declared.command.Command.{Command}
 use Rattle.erlay_cli.specs.declared.status.Status.{Status}
 use Rattle.erlay_cli.specs.declared.status.Status.TheVariants as status
 use Rattle.erlay_cli.specs.Codes.{code_of}
-use Rattle.erlay_cli.specs.Words.{IsFormless, HasCommand}
+use Rattle.command_words.specs.Words.{IsFormless, HasCommand}
 use Rattle.erlay_cli.specs.Outside.{Observation, HasRead, ReadsAtMost}
 use Rattle.erlay_cli.specs.Answers.{HasAnswer, answer_to}
 

@@ -1,4 +1,3 @@
-pub mod Words
 pub mod Outside
 pub mod Answers
 pub mod Ends

@@ -12,7 +12,8 @@ use crate::report::Report;
 use crate::sketch_lines::{line_count, sketch_of};
 use crate::status::Status;
 use base_types::OutOfMemory;
-use field_core::{Field, Gf32};
+use clmul_lanes::Lane32;
+use field_core::Field;
 use line_text::{ReadStop, TextLines};
 use sketch_core::{Decoded, Sketch};
 use std::alloc::{AllocError, Global};
@@ -29,8 +30,8 @@ pub fn decode(alloc: Global, input: &[u8]) -> Result<Report, OutOfMemory>
 }
 
 /// The one sketch that the text lists.
-fn only_sketch(alloc: Global, text: &[u8]) -> Result<Sketch<Gf32>, ReadStop>
-    ensures { IsOutcome (map ⟦<Gf32 as Field>⟧.bits_of) result (sketch_in text.now) }
+fn only_sketch(alloc: Global, text: &[u8]) -> Result<Sketch<Lane32>, ReadStop>
+    ensures { IsOutcome (map ⟦<Lane32 as Field>⟧.bits_of) result (sketch_in text.now) }
 {
     let mut lines = TextLines::of(text);
     let (Some(only), None) = (lines.next(), lines.next()) else {
@@ -40,8 +41,8 @@ fn only_sketch(alloc: Global, text: &[u8]) -> Result<Sketch<Gf32>, ReadStop>
 }
 
 /// The lines of the set that was found, or that there is none, as an answer.
-fn set_report(alloc: Global, decoded: &Decoded<Gf32>) -> Result<Report, OutOfMemory>
-    ensures { IfOk result (λ report. IsReportOf report (set_answer (decoded_numbers ⟦<Gf32 as Field>⟧.bits_of decoded.now))) }
+fn set_report(alloc: Global, decoded: &Decoded<Lane32>) -> Result<Report, OutOfMemory>
+    ensures { IfOk result (λ report. IsReportOf report (set_answer (decoded_numbers ⟦<Lane32 as Field>⟧.bits_of decoded.now))) }
 {
     match decoded {
         Decoded::Found(set) => Ok(Report {
@@ -56,8 +57,8 @@ fn set_report(alloc: Global, decoded: &Decoded<Gf32>) -> Result<Report, OutOfMem
 }
 
 /// The elements as lines, each of 8 digits, the most significant first.
-fn set_text(alloc: Global, set: &[Gf32]) -> Result<Vec<u8>, AllocError>
-    ensures { IfOk result (λ text. text.items ≡ elements.set_text (map ⟦<Gf32 as Field>⟧.bits_of set.now)) }
+fn set_text(alloc: Global, set: &[Lane32]) -> Result<Vec<u8>, AllocError>
+    ensures { IfOk result (λ text. text.items ≡ elements.set_text (map ⟦<Lane32 as Field>⟧.bits_of set.now)) }
 {
     let mut text = Vec::new(alloc);
     for element in set {

@@ -8,8 +8,8 @@ ghost use Rattle.sketch_text_rules.specs.Elements.{IsSet, set_text};
 ghost use Rattle.sketch_text_rules.specs.Limits.{input_limit};
 ghost use Rattle.erlay_cli.specs.Answers.{answer_to};
 
-use crate::command::Command;
 use crate::status::Status;
+use command_words::Command;
 
 /// Where two sets differ in no more elements than a sketch has sums, `decode` answers the elements that they differ in:
 /// to the line of the sum of their sketches, and, where the texts of the sets are within the limit of an input, to what

@@ -1,15 +1,15 @@
 //! The program's top call: words, input, answer, output.
 #![tactic(auto)]
 
-mod command;
 mod decode;
 mod faults;
+mod ids;
 mod laws;
 mod make;
 mod merge;
-mod number;
 mod program;
 mod report;
+mod show;
 mod sketch_lines;
 mod status;
 mod top;

@@ -10,7 +10,8 @@ use crate::faults::fault_report;
 use crate::report::{Report, sketch_report};
 use crate::sketch_lines::{line_count, sketch_of};
 use base_types::{Kind, OutOfMemory, TextFault};
-use field_core::{Field, Gf32};
+use clmul_lanes::Lane32;
+use field_core::Field;
 use line_text::{ReadStop, TextLine, TextLines};
 use sketch_core::Sketch;
 use std::alloc::Global;
@@ -27,8 +28,8 @@ pub fn merge(alloc: Global, input: &[u8]) -> Result<Report, OutOfMemory>
 }
 
 /// The sum of the two sketches that the text lists.
-fn sum_of(alloc: Global, text: &[u8]) -> Result<Sketch<Gf32>, ReadStop>
-    ensures { IsOutcome (map ⟦<Gf32 as Field>⟧.bits_of) result (sum_in text.now) }
+fn sum_of(alloc: Global, text: &[u8]) -> Result<Sketch<Lane32>, ReadStop>
+    ensures { IsOutcome (map ⟦<Lane32 as Field>⟧.bits_of) result (sum_in text.now) }
 {
     let mut lines = TextLines::of(text);
     let (Some(first), Some(second), None) = (lines.next(), lines.next(), lines.next()) else {
@@ -38,8 +39,12 @@ fn sum_of(alloc: Global, text: &[u8]) -> Result<Sketch<Gf32>, ReadStop>
 }
 
 /// The sum of the sketches of two lines.
-fn sum_of_two(alloc: Global, first: &TextLine, second: &TextLine) -> Result<Sketch<Gf32>, ReadStop>
-    ensures { IsOutcome (map ⟦<Gf32 as Field>⟧.bits_of) result (sum_of_lines (line_of first.now ∷ line_of second.now ∷ [])) }
+fn sum_of_two(
+    alloc: Global,
+    first: &TextLine,
+    second: &TextLine,
+) -> Result<Sketch<Lane32>, ReadStop>
+    ensures { IsOutcome (map ⟦<Lane32 as Field>⟧.bits_of) result (sum_of_lines (line_of first.now ∷ line_of second.now ∷ [])) }
 {
     let mut sum = sketch_of(alloc, first)?;
     let other = sketch_of(alloc, second)?;

@@ -8,7 +8,8 @@ ghost use Rattle.erlay_cli.specs.Stops.{text_of, status_of};
 
 use crate::status::Status;
 use base_types::OutOfMemory;
-use field_core::{Field, Gf32};
+use clmul_lanes::Lane32;
+use field_core::Field;
 use sketch_bytes::to_line;
 use sketch_core::Sketch;
 use sketch_text_rules::INPUT_LIMIT;
@@ -22,8 +23,8 @@ pub struct Report {
 }
 
 /// The line of a sketch, as an answer.
-pub fn sketch_report(alloc: Global, sketch: &Sketch<Gf32>) -> Result<Report, OutOfMemory>
-    ensures { IfOk result (λ report. IsReportOf report (sketch_answer (map ⟦<Gf32 as Field>⟧.bits_of sketch.now))) }
+pub fn sketch_report(alloc: Global, sketch: &Sketch<Lane32>) -> Result<Report, OutOfMemory>
+    ensures { IfOk result (λ report. IsReportOf report (sketch_answer (map ⟦<Lane32 as Field>⟧.bits_of sketch.now))) }
 {
     let digits = to_line(alloc, sketch)?;
     let mut text = digits.as_slice().to_vec(alloc)?;

@@ -10,15 +10,16 @@ ghost use Rattle.erlay_cli.specs.SketchLines.{sketch_of_line};
 ghost use Rattle.erlay_cli.specs.SketchLines as spec;
 
 use base_types::{Kind, TextFault};
-use field_core::{Field, Gf32};
+use clmul_lanes::Lane32;
+use field_core::Field;
 use line_text::{ReadStop, TextLine, count};
 use sketch_bytes::{BytesFault, LineFault, from_line};
 use sketch_core::Sketch;
 use std::alloc::Global;
 
 /// The sketch of a line.
-pub fn sketch_of(alloc: Global, line: &TextLine) -> Result<Sketch<Gf32>, ReadStop>
-    ensures { IsOutcome (map ⟦<Gf32 as Field>⟧.bits_of) result (after_line (line_of line.now) (sketch_of_line line.now.bytes.now) (λ sums. Ok sums)) }
+pub fn sketch_of(alloc: Global, line: &TextLine) -> Result<Sketch<Lane32>, ReadStop>
+    ensures { IsOutcome (map ⟦<Lane32 as Field>⟧.bits_of) result (after_line (line_of line.now) (sketch_of_line line.now.bytes.now) (λ sums. Ok sums)) }
 {
     match from_line(alloc, line.bytes) {
         Ok(sketch) => Ok(sketch),

@@ -3,6 +3,7 @@
 ghost use Rattle.std.specs.Prelude.{◌≡◌};
 
 use base_types::Kind;
+use protocol_text_rules::StreamKind;
 
 /// How a run ended.
 #[derive(Clone, Copy, Debug, PartialEq, Eq)]
@@ -13,6 +14,8 @@ pub enum Status {
     Usage,
     /// The input has a fault, the first of which is named.
     BadInput { place: u64, kind: Kind },
+    /// The frames of the input have a fault. The first is named, by the offset of its frame's first byte.
+    BadStream { place: u64, kind: StreamKind },
     /// No set of at most as many elements as the sketch has sums has it. `no set` was written.
     NoSet,
     /// A read of the input failed.
@@ -36,6 +39,7 @@ impl Status {
             Status::Ok => 0,
             Status::Usage => 1,
             Status::BadInput { .. } => 2,
+            Status::BadStream { .. } => 2,
             Status::NoSet => 3,
             Status::ReadFault => 5,
             Status::WriteFault => 6,

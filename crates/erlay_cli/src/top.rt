@@ -5,19 +5,21 @@ ghost use Rattle.std.specs.String.{string_bytes};
 ghost use Rattle.erlay_base.specs.Causes.{HasRisen};
 ghost use Rattle.line_rules.specs.Lines.{line};
 ghost use Rattle.sketch_text_rules.specs.Faults.{out_of_memory_text};
-ghost use Rattle.erlay_cli.specs.Words.{HasForm, IsFormless};
+ghost use Rattle.command_words.specs.Words.{HasForm, IsFormless};
 ghost use Rattle.erlay_cli.specs.Outside.{observation_of};
 ghost use Rattle.erlay_cli.specs.Answers.{IsReportOf, answer_to, answer_within_limit};
 ghost use Rattle.erlay_cli.specs.Ends.{IsEnding, IsWritten, IsAnswer, IsAnswerTo, IsSound};
 ghost use Rattle.erlay_cli.specs.Stops.{status_of, text_of};
-ghost use Rattle.erlay_cli.specs.declared.command.Command.{Command};
+ghost use Rattle.command_words.specs.declared.command.Command.{Command};
 
-use crate::command::{Command, command_of};
 use crate::decode::decode;
+use crate::ids::ids;
 use crate::make::make;
 use crate::merge::merge;
 use crate::report::{Report, Stop};
+use crate::show::show;
 use crate::status::Status;
+use command_words::{Command, command_of};
 use erlay_base::{ReadEnd, Sink, Source, read_all, write_all};
 use sketch_text_rules::INPUT_LIMIT;
 use std::alloc::Global;
@@ -96,6 +98,8 @@ fn work(alloc: Global, command: Command, input: &[u8]) -> Result<Report, Stop>
         Command::Make(capacity) => make(alloc, capacity, input),
         Command::Merge => merge(alloc, input),
         Command::Decode => decode(alloc, input),
+        Command::Ids { salt, other } => ids(alloc, salt, other, input),
+        Command::Show => show(alloc, input),
     };
     answered.map_err(|_| Stop::OutOfMemory)
 }

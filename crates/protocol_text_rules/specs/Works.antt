@@ -20,6 +20,11 @@ use Rattle.protocol_text_rules.specs.declared.limits.TheConstants.{MAIN_MAGIC}
 use Rattle.protocol_text_rules.specs.declared.stream.StreamKind.{StreamKind}
 use Rattle.protocol_text_rules.specs.declared.stream.StreamKind.TheVariants as stream
 
+-- the text of what was read, or its fault
+abbrev pub with_text : {A F : Type 0} → (A → List ℕ) → Result A F → Result (List ℕ) F
+with_text spelled (Ok a) = Ok (spelled a)
+with_text spelled (Err f) = Err f
+
 -- ---- ids: each id with its short id under the key of two salts
 
 -- an id is a line of 64 digits

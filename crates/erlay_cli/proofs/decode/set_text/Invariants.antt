@@ -1,5 +1,5 @@
 use Rattle.std.proofs.Common.{◌≡◌, map, take}
-use Rattle.field_core.specs.Gf32.{bits_of}
+use Rattle.clmul_lanes.specs.Lane32.{bits_of}
 use Rattle.sketch_text_rules.specs.Elements.{set_text}
 use Rattle.erlay_cli.proofs.decode.set_text.Given as goal
 

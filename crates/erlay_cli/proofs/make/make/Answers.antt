@@ -4,8 +4,8 @@ use Rattle.std.specs.List.{All}
 use Rattle.field_rules.specs.Lists.{AreDistinct}
 use Rattle.sketch_rules.specs.PowerSums.{sketch_by}
 use Rattle.sketch_rules.specs.Sketches.{sketch_of}
-use Rattle.field_core.specs.declared.gf32.Gf32.{Gf32}
-use Rattle.field_core.specs.Gf32.{bits_of, numbered, ops}
+use Rattle.clmul_lanes.specs.declared.lane32.Lane32.{Lane32}
+use Rattle.clmul_lanes.specs.Lane32.{bits_of, numbered, ops}
 use Rattle.sketch_laws.proofs.SketchNumbers.{sketch_by-numbers}
 use Rattle.sketch_text_rules.specs.Elements.{set_in}
 use Rattle.erlay_cli.specs.Answers.{Answer, IsReportOf, make_answer, sketch_answer}
@@ -15,12 +15,12 @@ use Rattle.erlay_cli.proofs.make.make.Goals as goal
 pub of-requires-clause-nonzero : goal.of-requires-clause-nonzero
 of-requires-clause-nonzero c =
     let elements : All (λ e. e ≢ ops.zero) c.in-Ok.elements.items = nonzero c.in-Ok.elements.items c.in-Ok.ensures.elements in
-    subst (λ (es : List Gf32). All (λ e. e ≢ ops.zero) es) (sym c.as_slice.ensures.value) elements
+    subst (λ (es : List Lane32). All (λ e. e ≢ ops.zero) es) (sym c.as_slice.ensures.value) elements
 
 pub of-requires-clause-distinct : goal.of-requires-clause-distinct
 of-requires-clause-distinct c =
     let distinct : AreDistinct c.in-Ok.elements.items = apart c.in-Ok.elements.items c.in-Ok.ensures.distinct in
-    subst (λ (es : List Gf32). AreDistinct es) (sym c.as_slice.ensures.value) distinct
+    subst (λ (es : List Lane32). AreDistinct es) (sym c.as_slice.ensures.value) distinct
 
 pub returns : goal.returns
 returns c =

@@ -4,9 +4,10 @@ ghost use Rattle.std.specs.Prelude.{◌≡◌, ◌≢◌, ℕ, [], ◌∷◌, ma
 ghost use Rattle.std.specs.Fmt.{decimal};
 ghost use Rattle.std.specs.String.{string_bytes};
 ghost use Rattle.sketch_rules.specs.Sketches.{IsCapacity};
-ghost use Rattle.erlay_cli.specs.Words.{HasForm, IsFormless};
+ghost use Rattle.command_words.specs.Words.{HasForm, IsFormless};
 
 use crate::number::decimal_of;
+use crate::salt::salt_of;
 use sketch_rules::MAX_CAPACITY;
 
 /// What the command line asks for.
@@ -18,6 +19,10 @@ pub enum Command {
     Merge,
     /// Write the set that has the sketch of the input.
     Decode,
+    /// Write each id of the input with its short id under the key of the two salts.
+    Ids { salt: u64, other: u64 },
+    /// Write the messages of the frames of the input, a line each.
+    Show,
 }
 
 /// The capacity of a sketch that the text spells in decimal digits.
@@ -36,6 +41,7 @@ fn without_argument(name: &str) -> Option<Command>
     match name {
         "merge" => Some(Command::Merge),
         "decode" => Some(Command::Decode),
+        "show" => Some(Command::Show),
         _ => None,
     }
 }
@@ -50,6 +56,19 @@ fn with_argument(name: &str, argument: &str) -> Option<Command>
     }
 }
 
+/// The command of a name and two arguments.
+fn with_arguments(name: &str, first: &str, second: &str) -> Option<Command>
+    ensures { MatchOption result (IsFormless (name.now ∷ first.now ∷ second.now ∷ [])) (HasForm (name.now ∷ first.now ∷ second.now ∷ [])) }
+{
+    match name {
+        "ids" => Some(Command::Ids {
+            salt: salt_of(first)?,
+            other: salt_of(second)?,
+        }),
+        _ => None,
+    }
+}
+
 /// The command that the words ask for, where they have the form of one.
 pub fn command_of(words: &[String]) -> Option<Command>
     ensures { MatchOption result (IsFormless (map string_bytes words.now)) (HasForm (map string_bytes words.now)) }
@@ -57,6 +76,7 @@ pub fn command_of(words: &[String]) -> Option<Command>
     match words {
         [name] => without_argument(name.as_str()),
         [name, argument] => with_argument(name.as_str(), argument.as_str()),
+        [name, first, second] => with_arguments(name.as_str(), first.as_str(), second.as_str()),
         _ => None,
     }
 }

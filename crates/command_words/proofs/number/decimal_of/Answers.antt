@@ -2,9 +2,9 @@ use Rattle.std.proofs.Common.{◌≢◌, ◌∙◌, sym, [], ◌∷◌, get_or, 
 use Rattle.std.proofs.lemmas.Bool.{false≢true}
 use Rattle.std.proofs.lemmas.Slice.Eq.{bytes_eq-Decides}
 use Rattle.std.proofs.lemmas.Str.Pattern.{starts_char}
-use Rattle.erlay_cli.proofs.Numbers.{decimal_zero, decimal_start, parsed_decimal}
-use Rattle.erlay_cli.proofs.number.decimal_of.Goals.{then-starts_with-via-then-starts_with, then-starts_with-via-else-starts_with+then-starts_with-2}
-use Rattle.erlay_cli.proofs.number.decimal_of.Goals as goal
+use Rattle.command_words.proofs.Numbers.{decimal_zero, decimal_start, parsed_decimal}
+use Rattle.command_words.proofs.number.decimal_of.Goals.{then-starts_with-via-then-starts_with, then-starts_with-via-else-starts_with+then-starts_with-2}
+use Rattle.command_words.proofs.number.decimal_of.Goals as goal
 
 pub returns-then-eq : goal.returns-then-eq
 returns-then-eq c = (bytes_eq-Decides c.args.text.now (48 ∷ [])).0 (sym c.eq.ensures ∙ c.if-eq.true) ∙ sym decimal_zero

@@ -1,15 +1,23 @@
 -- The forms of the command line, without the program's own name.
-use Rattle.std.specs.Prelude.{◌≡◌, ℕ, List, [], ◌∷◌, codes}
+use Rattle.std.specs.Prelude.{◌≡◌, ℕ, ◌^◌, ◌<◌, List, [], ◌∷◌, codes, Ok}
 use Rattle.std.specs.Fmt.{decimal}
+use Rattle.std.specs.Int.{to_be_bytes, w64}
+use Rattle.hex.specs.Hex.{decode_of}
 use Rattle.sketch_rules.specs.Sketches.{IsCapacity}
-use Rattle.erlay_cli.specs.declared.command.Command.{Command}
-use Rattle.erlay_cli.specs.declared.command.Command.TheVariants as command
+use Rattle.command_words.specs.declared.command.Command.{Command}
+use Rattle.command_words.specs.declared.command.Command.TheVariants as command
+
+-- the digits of the word, of either case and two a byte, spell the 8 bytes of the salt, the most significant first
+abbrev pub IsSalt : List ℕ → ℕ → Type 0
+IsSalt word salt = (decode_of word ≡ Ok (to_be_bytes w64 salt)) × (salt < 2 ^ 64)
 
 -- the words ask for the command
 abbrev pub HasForm : List (List ℕ) → Command → Type 0
 HasForm words (command.Make capacity) = (words ≡ codes "make" ∷ decimal capacity ∷ []) × IsCapacity capacity
 HasForm words command.Merge = words ≡ codes "merge" ∷ []
 HasForm words command.Decode = words ≡ codes "decode" ∷ []
+HasForm words (command.Ids salt other) = (first : List ℕ) × (second : List ℕ) × (words ≡ codes "ids" ∷ first ∷ second ∷ []) × IsSalt first salt × IsSalt second other
+HasForm words command.Show = words ≡ codes "show" ∷ []
 
 -- the words ask for no command
 abbrev pub IsFormless : List (List ℕ) → Type 0

@@ -1,0 +1,3 @@
+pub mod Numbers
+pub mod Salts
+pub mod Forms
