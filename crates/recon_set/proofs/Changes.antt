@@ -1,5 +1,5 @@
 -- The sketched short ids as one member comes or goes.
-use Rattle.std.proofs.Common.{◌≡◌, ◌++◌, ◌+◌, ◌==◌, ◌<◌, ◌^◌, ◌||◌, ℕ, suc, not, Bool, true, false, cond, List, [], ◌∷◌, Some, find, filter, map, option_map, refl, sym, ap, subst, ◌∙◌, arith}
+use Rattle.std.proofs.Common.{◌≡◌, ◌++◌, ◌+◌, ◌==◌, ◌<◌, ◌^◌, ℕ, not, Bool, true, false, cond, List, [], ◌∷◌, Some, find, filter, map, option_map, refl, sym, ap, subst, ◌∙◌, arith}
 use Rattle.std.specs.List.{AllByRecursion, count_by}
 use Rattle.std.proofs.lemmas.Bool.{eqb-true, eq-eqb, or_parts, not-true}
 use Rattle.std.proofs.lemmas.List.Sums.{sum_by_push}

@@ -1,11 +1,9 @@
 -- Entries as members.
-use Rattle.std.proofs.Common.{◌≡◌, ◌++◌, ◌+◌, ◌==◌, ℕ, suc, not, Bool, true, false, cond, List, [], ◌∷◌, Some, None, Option, find, filter, map, length, option_map, refl, sym, ap, subst, ◌∙◌}
+use Rattle.std.proofs.Common.{◌≡◌, ◌++◌, ◌+◌, ◌==◌, ℕ, suc, Bool, true, false, cond, List, [], ◌∷◌, Some, find, filter, length, option_map, refl, sym, ap, subst, ◌∙◌}
 use Rattle.std.specs.List.{AllByRecursion, count_by}
-use Rattle.base_types.specs.declared.lists.Hash32.{Hash32}
 use Rattle.id_list.specs.declared.list.Entry.{Entry}
-use Rattle.id_list.specs.Entries.{ids_in, entry_of_id, without_entry}
-use Rattle.pool_rules.specs.Pools.{is_same_id}
-use Rattle.pool_rules.specs.Snapshots.{Member, ids_of, without_member}
+use Rattle.id_list.specs.Entries.{ids_in}
+use Rattle.pool_rules.specs.Snapshots.{Member, ids_of}
 use Rattle.pool_laws.proofs.Singles.{count_by-cons}
 use Rattle.recon_set.specs.Members.{member, members_of}
 use Rattle.recon_set.specs.Groups.{count_at}

@@ -1,6 +1,6 @@
 -- Members as they are kept, as members come and go.
-use Rattle.std.proofs.Common.{◌≡◌, ◌++◌, ◌+◌, ◌-◌, ◌==◌, ◌<◌, ◌^◌, ℕ, zero, suc, not, Bool, true, false, cond, List, [], ◌∷◌, Some, None, Option, Ordering, find, option_map, refl, sym, ap, subst, ◌∙◌, arith}
-use Rattle.std.specs.Option.{is_some, IsSome, IfSome}
+use Rattle.std.proofs.Common.{◌≡◌, ◌++◌, ◌+◌, ◌-◌, ◌==◌, ◌<◌, ◌^◌, ℕ, zero, suc, not, Bool, true, false, cond, List, [], ◌∷◌, Some, None, Option, find, length, length-append, le_trans, option_map, refl, sym, ap, subst, ◌∙◌, arith}
+use Rattle.std.specs.Option.{IsSome, IfSome}
 use Rattle.std.specs.Ordering.{nat_cmp, is_eq}
 use Rattle.std.specs.Map.{lookup}
 use Rattle.std.specs.BTreeMap.{BTreeMap, WritesThrough, get, is_at}
@@ -8,17 +8,18 @@ use Rattle.std.specs.Int.Bits.{bit_xor}
 use Rattle.std.proofs.lemmas.Bool.{eqb-true, or_parts}
 use Rattle.std.proofs.lemmas.Bool.Decides.{nat_tests}
 use Rattle.base_types.specs.declared.lists.Hash32.{Hash32}
-use Rattle.id_rules.proofs.Lists.{all_append, all_filter}
+use Rattle.id_rules.proofs.Lists.{all_append, all_filter, filter_few}
 use Rattle.id_list.specs.declared.list.Entry.{Entry}
 use Rattle.id_list.specs.Entries.{ids_in, entry_of_id, without_entry}
-use Rattle.id_list.proofs.Found.{without_entry-none, ids_in-without}
+use Rattle.id_list.proofs.Found.{ids_in-without}
 use Rattle.pool_rules.specs.Pools.{is_same_id, is_listed, AreDistinctIds}
-use Rattle.pool_rules.specs.Snapshots.{Member, is_single, id_of_short, without_member}
+use Rattle.pool_rules.specs.declared.limits.TheConstants.{POOL_LIMIT}
+use Rattle.pool_rules.specs.Snapshots.{Member, is_single, id_of_short}
 use Rattle.pool_laws.proofs.IdLists.{is_same_id-self, distinct_both, distinct_filter, one_alone}
 use Rattle.pool_laws.proofs.Singles.{id_of_short-alone}
 use Rattle.recon_set.specs.declared.members.Group.{Group}
 use Rattle.recon_set.specs.Members.{member, members_of, HaveElements}
-use Rattle.recon_set.specs.Groups.{count_at, group_by_count, group_at, places_at, with_place, without_place, AreGroups}
+use Rattle.recon_set.specs.Groups.{count_at, group_by_count, group_at, places_at, with_place, without_place}
 use Rattle.recon_set.specs.Invariant.{AreKept}
 use Rattle.recon_set.proofs.Entries.{members_of-append, count_by-members, find-members, filter-members, found_entry}
 use Rattle.recon_set.proofs.Groups.{group_by_count-some, group_by_count-none, group_at-push, group_at-without, count_at-some, lone}
@@ -45,13 +46,14 @@ room_for es s n (Some g) e lt = let count = (group_by_count-some (count_at es s)
 pub is_kept-none : (es : List (ℕ × Entry ℕ)) (groups : List (ℕ × Group)) → es ≡ [] → groups ≡ [] → AreKept es groups
 unfolding AreDistinctIds group_by_count
 is_kept-none es groups e f =
-    subst (λ z. AreKept z groups) (sym e) (subst (λ z. AreKept [] z) (sym f) (record { distinct = tt; elements = tt; grouped = λ s. refl }))
+    subst (λ z. AreKept z groups) (sym e) (subst (λ z. AreKept [] z) (sym f) (record { distinct = tt; few = omega arith; elements = tt; grouped = λ s. refl }))
 
-pub is_kept-more : (es : List (ℕ × Entry ℕ)) (groups more : List (ℕ × Group)) (place : ℕ) (x : Entry ℕ) → AreKept es groups → is_listed (ids_in es) x.id ≡ false → 0 < x.value → x.value < 2 ^ 32
+pub is_kept-more : (es : List (ℕ × Entry ℕ)) (groups more : List (ℕ × Group)) (place : ℕ) (x : Entry ℕ) → AreKept es groups → is_listed (ids_in es) x.id ≡ false → length es < POOL_LIMIT → 0 < x.value → x.value < 2 ^ 32
     → ((s : ℕ) → lookup (is_at (nat_cmp s)) more ≡ cond (is_at (nat_cmp x.value) s) (Some (with_place (lookup (is_at (nat_cmp x.value)) groups) place)) (lookup (is_at (nat_cmp s)) groups))
     → AreKept (es ++ (place, x) ∷ []) more
-is_kept-more es groups more place x h out low high u = record {
+is_kept-more es groups more place x h out room low high u = record {
   distinct = subst AreDistinctIds (sym (map-append (λ e. e.1.id) es ((place, x) ∷ []))) (distinct_both (ids_in es) (x.id ∷ []) h.distinct (one_alone x.id) (out, tt));
+  few = omega (arith, length-append es ((place, x) ∷ []));
   elements = subst HaveElements (sym (members_of-append es (place, x))) (all_append (λ m. (0 < m.short) × (m.short < 2 ^ 32)) (members_of es) (member x ∷ []) h.elements ((low, high), tt));
   grouped = λ s.
       u s
@@ -79,6 +81,7 @@ pub is_kept-less : (es : List (ℕ × Entry ℕ)) (groups fewer : List (ℕ × G
     → AreKept (without_entry es id) fewer
 is_kept-less es groups fewer id e h f u = record {
   distinct = subst AreDistinctIds (sym (ids_in-without es id)) (distinct_filter (λ other. not (is_same_id other id)) (ids_in es) h.distinct);
+  few = le_trans (filter_few (λ e. not (is_same_id e.1.id id)) es) h.few;
   elements = subst HaveElements (sym (filter-members (λ m. not (is_same_id m.id id)) es)) (all_filter (λ m. (0 < m.short) × (m.short < 2 ^ 32)) (λ m. not (is_same_id m.id id)) (members_of es) h.elements);
   grouped = λ s. let has = group_of-some es id e h.distinct f in
       u has.0 (h.grouped e.1.value ∙ has.1.0) s

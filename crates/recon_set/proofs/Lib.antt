@@ -5,3 +5,4 @@ pub mod Toggles
 pub mod Changes
 pub mod Starts
 pub mod Listed
+pub mod Announced

@@ -1,5 +1,5 @@
 -- Sums of no short ids, and parts of sums.
-use Rattle.std.proofs.Common.{◌≡◌, ◌+◌, ◌<◌, ◌≤◌, ◌^◌, ◌==◌, ◌≢◌, false, ℕ, zero, suc, List, [], ◌∷◌, map, take, replicate, length, get_or, refl, sym, ap, subst, ◌∙◌, arith}
+use Rattle.std.proofs.Common.{◌≡◌, ◌+◌, ◌<◌, ◌≤◌, ◌==◌, ◌≢◌, false, ℕ, zero, suc, List, [], ◌∷◌, map, take, replicate, length, get_or, refl, sym, ap, subst, ◌∙◌, arith}
 use Rattle.std.specs.List.{AllByRecursion}
 use Rattle.std.proofs.lemmas.Bool.{or_parts, not-true}
 use Rattle.std.proofs.lemmas.Cmp.{nat_list_eq_equiv}
@@ -11,7 +11,7 @@ use Rattle.recon_set.specs.Pairs.{pair_ids, pair_members}
 use Rattle.field_rules.specs.Ops.{Ops}
 use Rattle.field_rules.specs.Elements.{numbers}
 use Rattle.field_rules.specs.Numbered.{IsNumbered}
-use Rattle.sketch_rules.specs.PowerSums.{sketch_by, power_sum, odd_power_sums}
+use Rattle.sketch_rules.specs.PowerSums.{power_sum, odd_power_sums}
 use Rattle.sketch_rules.specs.Sketches.{sketch_of}
 use Rattle.sketch_laws.proofs.SketchNumbers.{sketch_by-numbers}
 use Rattle.sketch_laws.proofs.Parts.{odd_power_sums-front}

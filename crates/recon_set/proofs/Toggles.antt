@@ -1,5 +1,5 @@
 -- Sums of odd powers as one short id comes or goes: an element that is added twice is gone.
-use Rattle.std.proofs.Common.{◌≡◌, ◌++◌, ◌+◌, ◌*◌, ◌==◌, ◌<◌, ◌^◌, ℕ, zero, suc, not, Bool, true, false, cond, List, [], ◌∷◌, filter, map, refl, sym, ap, subst, ◌∙◌, arith}
+use Rattle.std.proofs.Common.{◌≡◌, ◌++◌, ◌+◌, ◌*◌, ◌==◌, ◌<◌, ◌^◌, ℕ, zero, suc, not, Bool, true, false, cond, List, [], ◌∷◌, filter, map, refl, sym, ap, ◌∙◌, arith}
 use Rattle.std.specs.List.{AllByRecursion, count_by}
 use Rattle.std.proofs.lemmas.Bool.{eqb-true}
 use Rattle.std.proofs.lemmas.List.{map-append}
@@ -9,7 +9,7 @@ use Rattle.sketch_rules.specs.PowerSums.{power_sum, odd_power_sums, sketch_by}
 use Rattle.sketch_rules.specs.Sketches.{sketch_at}
 use Rattle.sketch_laws.proofs.SketchNumbers.{sketch_by-numbers}
 use Rattle.field_core.proofs.PowerSums.{odd_power_sums-more}
-use Rattle.pool_laws.proofs.Singles.{count_by-cons, filter_all}
+use Rattle.pool_laws.proofs.Singles.{count_by-cons}
 
 -- ---- a list of numbers in which one stands once
 

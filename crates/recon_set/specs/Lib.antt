@@ -4,3 +4,4 @@ pub mod Invariant
 pub mod Sums
 pub mod Pairs
 pub mod Changes
+pub mod Announcements

@@ -1,8 +1,10 @@
 //! Ids with their short ids, in order, with a look-up by either.
 
-ghost use Rattle.std.specs.Prelude.{◌≡◌, ℕ, ◌+◌, ◌<◌, ◌^◌, ◌==◌, [], ◌∷◌, ◌++◌, List, false, length, map, filter, find, Some, IfOk, OnErr, IfSome, option_map, if◌then◌else◌, not};
+ghost use Rattle.std.specs.Prelude.{◌≡◌, ℕ, ◌+◌, ◌<◌, ◌≤◌, ◌^◌, ◌==◌, [], ◌∷◌, ◌++◌, List, false, length, map, filter, find, Some, IfOk, OnErr, IfSome, option_map, if◌then◌else◌, not, ◌||◌};
+ghost use Rattle.std.specs.List.{list_any};
 ghost use Rattle.std.specs.Ordering.{nat_cmp};
 ghost use Rattle.std.specs.BTreeMap.{get};
+ghost use Rattle.std.specs.BTreeSet.{contains};
 ghost use Rattle.pool_rules.specs.Pools.{is_listed, is_same_id};
 ghost use Rattle.pool_rules.specs.Snapshots.{Member, IsSet, ids_of, without_member, is_single, sketched_shorts, colliding, id_of_short};
 ghost use Rattle.pool_rules.specs.declared.limits.TheConstants.{POOL_LIMIT};
@@ -12,7 +14,7 @@ ghost use Rattle.recon_set.specs.Members.{HaveElements};
 use base_types::{Hash32, Hashes, OutOfMemory, Shorts};
 use id_list::IdList;
 use std::alloc::Global;
-use std::collections::BTreeMap;
+use std::collections::{BTreeMap, BTreeSet};
 use std::marker::Model;
 
 /// The members with one short id: how many, and the exclusive or of their places.
@@ -64,6 +66,7 @@ impl Members {
     /// How many there are.
     pub(crate) fn len(&self) -> usize
         ensures value { result ≡ length self.now }
+        ensures few { length self.now ≤ POOL_LIMIT }
         ensures set { IsSet self.now }
         ensures elements { HaveElements self.now }
     {
@@ -95,6 +98,13 @@ impl Members {
             Some(group) => group.count == 1,
             None => false,
         }
+    }
+
+    /// Whether a short id is one of those that one member alone has.
+    pub(crate) fn has_sketched(&self, short: u32) -> bool
+        ensures { result ≡ list_any (λ other. other == short) (sketched_shorts self.now) }
+    {
+        self.is_single(short)
     }
 
     /// The id of the member that has this short id alone.
@@ -141,6 +151,26 @@ impl Members {
         let mut ids = Vec::new(self.alloc);
         for entry in self.list.iter() {
             if !self.is_single(entry.value) {
+                ids.push(entry.id)?;
+            }
+        }
+        Ok(Hashes::from_vec(ids))
+    }
+
+    /// Whether a short id is among these, or isn't alone.
+    fn is_announced(&self, named: &BTreeSet<u32>, short: u32) -> bool
+        ensures { result ≡ (not (is_single self.now short) || contains nat_cmp named.now short) }
+    {
+        !self.is_single(short) || named.contains(&short)
+    }
+
+    /// The ids of the members whose short ids are among these, and of those that aren't alone with theirs, in order.
+    pub(crate) fn announced(&self, named: &BTreeSet<u32>) -> Result<Hashes, OutOfMemory>
+        ensures { IfOk result (λ ids. ids ≡ ids_of (filter (λ m. not (is_single self.now m.short) || contains nat_cmp named.now m.short) self.now)) }
+    {
+        let mut ids = Vec::new(self.alloc);
+        for entry in self.list.iter() {
+            if self.is_announced(named, entry.value) {
                 ids.push(entry.id)?;
             }
         }

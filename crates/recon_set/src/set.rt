@@ -1,6 +1,6 @@
 //! The set that a node reconciles with a peer.
 
-ghost use Rattle.std.specs.Prelude.{◌≡◌, ℕ, ◌<◌, ◌++◌, ◌∷◌, [], false, length, IfOk, OnErr, filter, not, ◌==◌};
+ghost use Rattle.std.specs.Prelude.{◌≡◌, ℕ, ◌<◌, ◌≤◌, ◌++◌, ◌∷◌, [], false, length, IfOk, OnErr, filter, not, ◌==◌};
 ghost use Rattle.pool_rules.specs.Pools.{is_listed};
 ghost use Rattle.pool_rules.specs.Snapshots.{IsSet, ids_of, without_member};
 ghost use Rattle.pool_rules.specs.declared.limits.TheConstants.{POOL_LIMIT};
@@ -85,6 +85,7 @@ impl<F: Field> ReconSet<F> {
     /// How many ids it has.
     pub fn len(&self) -> usize
         ensures value { result ≡ length self.now }
+        ensures few { length self.now ≤ POOL_LIMIT }
         ensures set { IsSet self.now }
         ensures elements { HaveElements self.now }
     {

@@ -1,7 +1,9 @@
 //! What a round takes of a set.
 
 ghost use Rattle.std.specs.Prelude.{◌≡◌, ℕ, ◌+◌, ◌<◌, ◌≤◌, ◌++◌, ◌∷◌, [], true, false, nat_lt, length, map, filter, find, replicate, IfOk, IfErr, OnOk, OnErr, Err, option_map, is_some, ◌==◌};
-ghost use Rattle.std.specs.List.{AllByRecursion};
+ghost use Rattle.std.specs.List.{AllByRecursion, list_any};
+ghost use Rattle.std.specs.Ordering.{nat_cmp};
+ghost use Rattle.std.specs.BTreeSet.{IsFromIterResult};
 ghost use Rattle.sketch_rules.specs.Sketches.{IsCapacity};
 ghost use Rattle.sketch_rules.specs.declared.limits.TheConstants.{MAX_CAPACITY};
 ghost use Rattle.sketch_core.specs.Refusals.{IsRefusal};
@@ -9,6 +11,7 @@ ghost use Rattle.sketch_core.specs.declared.fault.SketchFault.TheVariants.{Capac
 ghost use Rattle.pool_rules.specs.Pools.{is_listed, is_same_id, AreDistinctIds};
 ghost use Rattle.pool_rules.specs.Snapshots.{IsSet, ids_of, without_member, sketched_shorts, colliding, id_of_short, snapshot_sketch};
 ghost use Rattle.pool_rules.specs.declared.limits.TheConstants.{POOL_LIMIT};
+ghost use Rattle.recon_set.specs.Announcements.{announced_ids};
 ghost use Rattle.recon_set.specs.Members.{HaveElements};
 ghost use Rattle.recon_set.specs.Pairs.{pair_ids, pair_members};
 
@@ -19,6 +22,7 @@ use field_core::Field;
 use sketch_core::{Sketch, SketchFault};
 use sketch_rules::MAX_CAPACITY;
 use std::alloc::Global;
+use std::collections::BTreeSet;
 use std::marker::Model;
 
 /// The ids and short ids that a set had when a round took them, in its order. A contract sees its members, and whether
@@ -80,6 +84,7 @@ impl<F: Field> Snapshot<F> {
     /// How many members it has.
     pub fn len(&self) -> usize
         ensures value { result ≡ length self.now.members }
+        ensures few { length self.now.members ≤ POOL_LIMIT }
         ensures set { IsSet self.now.members }
         ensures elements { HaveElements self.now.members }
     {
@@ -119,6 +124,22 @@ impl<F: Field> Snapshot<F> {
         ensures { IfOk result (λ ids. ids ≡ ids_of (colliding self.now.members)) }
     {
         self.members.aside()
+    }
+
+    /// Whether a short id is sketched.
+    pub fn has_sketched(&self, short: u32) -> bool
+        ensures { result ≡ list_any (λ other. other == short) (sketched_shorts self.now.members) }
+    {
+        self.members.has_sketched(short)
+    }
+
+    /// The ids that a side announces whose peer lacks these short ids: of those of them that it has, and all that are
+    /// set aside, in order.
+    pub fn announced(&self, shorts: &[u32]) -> Result<Hashes, OutOfMemory>
+        ensures { IfOk result (λ ids. ids ≡ announced_ids self.now.members shorts.now) }
+    {
+        let named = set_of(self.members.allocator(), shorts)?;
+        self.members.announced(&named)
     }
 
     /// The id of a sketched short id.
@@ -211,6 +232,13 @@ impl<F: Field> Snapshot<F> {
         update(self.sums.as_mut_slice(), short, was_single, is_single);
         true
     }
+}
+
+/// The set of these short ids.
+fn set_of(alloc: Global, shorts: &[u32]) -> Result<BTreeSet<u32>, OutOfMemory>
+    ensures { IfOk result (IsFromIterResult nat_cmp shorts.now) }
+{
+    Ok(shorts.iter().copied().collect(alloc)?)
 }
 
 /// As many zeros.

@@ -74,6 +74,25 @@ fn equal_short_ids_are_set_aside(rt: HostRuntime) {
 }
 
 #[test]
+fn what_a_peer_lacks_is_announced(rt: HostRuntime) {
+    let ids = [Hash32([1; 32]), Hash32([2; 32]), Hash32([3; 32])];
+    let mut set = ReconSet::<Gf32>::empty(rt.alloc());
+    for (id, short) in ids.iter().zip([5, 7, 5]) {
+        assert!(rt; !set.contains(id));
+        assert!(rt; set.len() < POOL_LIMIT);
+        assert!(rt; 0 < short);
+        set.add(*id, short).expect(&rt, "memory");
+    }
+    let snapshot = set.as_snapshot();
+    assert!(rt; snapshot.has_sketched(7));
+    assert!(rt; !snapshot.has_sketched(5));
+    let aside = snapshot.announced(&[5, 9]).expect(&rt, "memory");
+    assert_eq!(rt; aside.as_slice(), [ids[0], ids[2]].as_slice());
+    let all = snapshot.announced(&[9, 7]).expect(&rt, "memory");
+    assert_eq!(rt; all.as_slice(), ids.as_slice());
+}
+
+#[test]
 #[tactic(auto, unfolding(pool_rules::specs::Pools::AreDistinctIds))]
 fn a_snapshot_of_pairs_makes_its_sums(rt: HostRuntime) {
     let pairs = [(Hash32([1; 32]), 5), (Hash32([2; 32]), 7)];

@@ -1,4 +1,4 @@
-use Rattle.std.proofs.Common.{◌≡◌, ◌<◌, ◌-◌, Some, sym, ap, subst, ◌∙◌}
+use Rattle.std.proofs.Common.{◌<◌, ◌-◌, sym, ap, subst, ◌∙◌}
 use Rattle.std.specs.Int.Bits.{bit_xor}
 use Rattle.recon_set.specs.declared.members.Group.{Group}
 use Rattle.recon_set.proofs.Kept.{taken-last, taken-more, same_group}

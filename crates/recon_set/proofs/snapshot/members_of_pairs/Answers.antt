@@ -1,4 +1,4 @@
-use Rattle.std.proofs.Common.{◌≡◌, [], get_or, sym, ap, ◌∙◌}
+use Rattle.std.proofs.Common.{[], get_or, ap, ◌∙◌}
 use Rattle.pool_rules.specs.Pools.{is_listed}
 use Rattle.pool_rules.specs.Snapshots.{ids_of}
 use Rattle.recon_set.proofs.Starts.{unlisted_next}

@@ -1,4 +1,4 @@
-use Rattle.std.proofs.Common.{◌≡◌, ◌++◌, ◌∷◌, ◌<◌, ◌^◌, [], map, take, refl, sym, ap, subst, ◌∙◌}
+use Rattle.std.proofs.Common.{◌++◌, ◌∷◌, ◌<◌, ◌^◌, [], map, take, refl, sym, ap, subst, ◌∙◌}
 use Rattle.std.proofs.lemmas.List.{take_more}
 use Rattle.field_rules.specs.Numbered.{IsNumbered}
 use Rattle.sketch_rules.specs.Sketches.{sketch_of}

@@ -1,4 +1,4 @@
-use Rattle.std.proofs.Common.{◌≡◌, map, take, length}
+use Rattle.std.proofs.Common.{◌≡◌, map, take}
 use Rattle.sketch_rules.specs.Sketches.{sketch_of}
 use Rattle.recon_set.proofs.sums.sketch_of_shorts.Given as goal
 

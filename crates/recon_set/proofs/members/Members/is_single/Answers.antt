@@ -1,4 +1,4 @@
-use Rattle.std.proofs.Common.{◌≡◌, ◌==◌, sym, ap, ◌∙◌}
+use Rattle.std.proofs.Common.{sym, ap, ◌∙◌}
 use Rattle.pool_rules.specs.Snapshots.{is_single}
 use Rattle.recon_set.proofs.Kept.{single-some, single-none}
 use Rattle.recon_set.proofs.members.Members.is_single.Goals as goal

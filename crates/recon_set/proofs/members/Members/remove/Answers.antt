@@ -1,11 +1,10 @@
-use Rattle.std.proofs.Common.{◌≡◌, ◌<◌, not, Some, None, find, option_map, sym, ap, ap₂, cond, ◌==◌, subst, ◌∙◌}
+use Rattle.std.proofs.Common.{not, Some, find, option_map, sym, ap, ap₂, cond, ◌==◌, subst, ◌∙◌}
 use Rattle.std.specs.Option.{is_some}
 use Rattle.std.specs.Ordering.{nat_cmp}
-use Rattle.id_list.specs.Entries.{ids_in, entry_of_id, without_entry}
+use Rattle.id_list.specs.Entries.{entry_of_id}
 use Rattle.id_list.proofs.Found.{is_listed-is_some, without_entry-none}
-use Rattle.pool_rules.specs.Pools.{is_same_id, is_listed}
-use Rattle.pool_rules.specs.Snapshots.{Member, without_member}
-use Rattle.recon_set.specs.declared.members.Group.{Group}
+use Rattle.pool_rules.specs.Pools.{is_same_id}
+use Rattle.pool_rules.specs.Snapshots.{without_member}
 use Rattle.recon_set.specs.Members.{members_of}
 use Rattle.std.specs.BTreeMap.{get}
 use Rattle.recon_set.specs.Groups.{group_at, without_place}

@@ -1,4 +1,4 @@
-use Rattle.std.proofs.Common.{◌≡◌, ◌<◌, ◌^◌, find, option_map, sym, ap, subst, ◌∙◌}
+use Rattle.std.proofs.Common.{◌<◌, ◌^◌, find, option_map, sym, ap, subst, ◌∙◌}
 use Rattle.std.specs.Option.{IfSome}
 use Rattle.pool_rules.specs.Pools.{is_same_id, AreDistinctIds}
 use Rattle.pool_rules.specs.Snapshots.{IsSet}

@@ -1,8 +1,6 @@
-use Rattle.std.proofs.Common.{◌≡◌, map, length, drop, sym, ap, subst, ◌∙◌, arith}
+use Rattle.std.proofs.Common.{◌≡◌, map, length, drop, ap, ◌∙◌, arith}
 use Rattle.sketch_rules.specs.declared.limits.TheConstants.{MAX_CAPACITY}
 use Rattle.sketch_core.proofs.Both.{written_back}
-use Rattle.pool_rules.specs.Snapshots.{snapshot_sketch}
-use Rattle.recon_set.specs.Changes.{IsChange}
 use Rattle.recon_set.proofs.Changes.{is_change-push}
 use Rattle.recon_set.proofs.snapshot.Snapshot.put.Goals as goal
 

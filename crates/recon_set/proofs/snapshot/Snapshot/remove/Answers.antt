@@ -1,10 +1,9 @@
-use Rattle.std.proofs.Common.{◌≡◌, Some, find, option_map, map, length, drop, sym, ap, subst, ◌∙◌, arith}
+use Rattle.std.proofs.Common.{◌≡◌, map, length, drop, sym, ap, ◌∙◌, arith}
 use Rattle.std.specs.Option.{is_some}
 use Rattle.sketch_rules.specs.declared.limits.TheConstants.{MAX_CAPACITY}
 use Rattle.sketch_core.proofs.Both.{written_back}
-use Rattle.pool_rules.specs.Pools.{is_listed, is_same_id}
+use Rattle.pool_rules.specs.Pools.{is_listed}
 use Rattle.pool_rules.specs.Snapshots.{ids_of, without_member}
-use Rattle.recon_set.specs.Changes.{IsChange}
 use Rattle.recon_set.proofs.Changes.{is_change-without, without_none}
 use Rattle.recon_set.proofs.Listed.{listed_found}
 use Rattle.recon_set.proofs.snapshot.Snapshot.remove.Goals as goal

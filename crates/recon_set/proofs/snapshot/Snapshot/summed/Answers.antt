@@ -1,4 +1,4 @@
-use Rattle.std.proofs.Common.{◌≡◌, map, refl, sym, ap, ◌∙◌}
+use Rattle.std.proofs.Common.{map, refl, sym, ap, ◌∙◌}
 use Rattle.sketch_rules.specs.declared.limits.TheConstants.{MAX_CAPACITY}
 use Rattle.pool_rules.specs.Snapshots.{snapshot_sketch}
 use Rattle.recon_set.proofs.Starts.{zeros_are}
