@@ -79,8 +79,46 @@ fn a_pool_has_what_was_put_in(rt: HostRuntime) -> Result<(), Fail> {
     Ok(())
 }
 
+/// What a pool file has in front, its first line and what stands behind it, and its first fault.
+type Faulty = (&'static [u8], &'static [u8], &'static [u8], u64, Kind);
+
+// Texts that begin as a heading does.
+const HEADED: [Faulty; 14] = [
+    (b"pool 2 2\n", LINE, b"", 1, Kind::LineCount),
+    (b"pool 2 0\n", NO_ID, b"", 1, Kind::LineCount),
+    (b"pool 2 50000\n", LINE, ABC_LINE, 2, Kind::LineCount),
+    (b"pool 2 2\n", LINE, NO_TX, 3, Kind::BadDigit),
+    (b"pool 2 2\n", LINE, LINE, 3, Kind::Repeated),
+    (b"pool 3 0", b"", b"", 1, Kind::Form),
+    (b"pool 2 01\n", LINE, b"", 1, Kind::Form),
+    (b"pool 2 +1\n", LINE, b"", 1, Kind::Form),
+    (b"pool 2 1 \n", LINE, b"", 1, Kind::Form),
+    (b"\npool 2 \n", LINE, b"", 2, Kind::Form),
+    (b"pool 2 50001\n", LINE, b"", 1, Kind::Form),
+    (b"pool\n", LINE, b"", 1, Kind::Form),
+    (b"Pool 2 1\n", LINE, b"", 1, Kind::Form),
+    (b"pool 2 1\r\r\n", LINE, b"", 1, Kind::Form),
+];
+
+const MISMATCH: Kind = Kind::IdMismatch {
+    stands: HELLO,
+    computed: ABC,
+};
+
+// Texts that list transactions alone.
+const LISTED: [Faulty; 8] = [
+    (b"\n", SHORT, b"", 2, Kind::Form),
+    (b"", NO_SPACE, b"", 1, Kind::Form),
+    (b"", NO_ID, b"", 1, Kind::BadDigit),
+    (b"", ODD, b"", 1, Kind::OddDigits),
+    (b"", NO_TX, b"", 1, Kind::BadDigit),
+    (b"", OTHER_LINE, b"", 1, MISMATCH),
+    (b"", LINE, OTHER_LINE, 2, MISMATCH),
+    (b"", LINE, UPPER_LINE, 2, Kind::Repeated),
+];
+
 #[test]
-fn files_of_both_forms_are_read_up_to_their_first_fault(rt: HostRuntime) -> Result<(), Fail> {
+fn files_of_both_forms_are_read(rt: HostRuntime) -> Result<(), Fail> {
     let alloc = rt.alloc();
     let saved = joined(alloc, &[b"pool 2 1\n".as_slice(), LINE])?;
     for parts in [
@@ -91,90 +129,58 @@ fn files_of_both_forms_are_read_up_to_their_first_fault(rt: HostRuntime) -> Resu
         let pool = Pool::load(alloc, &joined(alloc, &parts)?)?;
         assert_eq!(rt; pool.save_text()?.as_slice(), saved.as_slice());
     }
-    let mismatch = Kind::IdMismatch {
-        stands: HELLO,
-        computed: ABC,
-    };
-    for (heading, first, second, place, kind) in [
-        (
-            b"pool 2 2\n".as_slice(),
-            LINE,
-            b"".as_slice(),
-            1,
-            Kind::LineCount,
-        ),
-        (
-            b"pool 2 0\n".as_slice(),
-            NO_ID,
-            b"".as_slice(),
-            1,
-            Kind::LineCount,
-        ),
-        (
-            b"pool 3 0".as_slice(),
-            b"".as_slice(),
-            b"".as_slice(),
-            1,
-            Kind::Form,
-        ),
-        (
-            b"pool 2 01\n".as_slice(),
-            LINE,
-            b"".as_slice(),
-            1,
-            Kind::Form,
-        ),
-        (
-            b"pool 2 +1\n".as_slice(),
-            LINE,
-            b"".as_slice(),
-            1,
-            Kind::Form,
-        ),
-        (
-            b"pool 2 1 \n".as_slice(),
-            LINE,
-            b"".as_slice(),
-            1,
-            Kind::Form,
-        ),
-        (
-            b"\npool 2 \n".as_slice(),
-            LINE,
-            b"".as_slice(),
-            2,
-            Kind::Form,
-        ),
-        (
-            b"pool 2 50001\n".as_slice(),
-            LINE,
-            b"".as_slice(),
-            1,
-            Kind::Form,
-        ),
-        (
-            b"pool 2 50000\n".as_slice(),
-            LINE,
-            ABC_LINE,
-            2,
-            Kind::LineCount,
-        ),
-        (b"pool\n".as_slice(), LINE, b"".as_slice(), 1, Kind::Form),
-        (b"\n".as_slice(), SHORT, b"".as_slice(), 2, Kind::Form),
-        (b"".as_slice(), NO_SPACE, b"".as_slice(), 1, Kind::Form),
-        (b"".as_slice(), NO_ID, b"".as_slice(), 1, Kind::BadDigit),
-        (b"".as_slice(), ODD, b"".as_slice(), 1, Kind::OddDigits),
-        (b"".as_slice(), NO_TX, b"".as_slice(), 1, Kind::BadDigit),
-        (b"".as_slice(), OTHER_LINE, b"".as_slice(), 1, mismatch),
-        (b"".as_slice(), LINE, OTHER_LINE, 2, mismatch),
-        (b"".as_slice(), LINE, UPPER_LINE, 2, Kind::Repeated),
-        (b"pool 2 2\n".as_slice(), LINE, NO_TX, 3, Kind::BadDigit),
-        (b"pool 2 2\n".as_slice(), LINE, LINE, 3, Kind::Repeated),
-    ] {
-        let text = joined(alloc, &[heading, first, second])?;
+    Ok(())
+}
+
+#[test]
+fn the_first_fault_of_a_file_is_named(rt: HostRuntime) -> Result<(), Fail> {
+    let alloc = rt.alloc();
+    for (front, first, behind, place, kind) in HEADED.iter().chain(&LISTED).copied() {
+        let text = joined(alloc, &[front, first, behind])?;
         let stop = Pool::load(alloc, &text).err();
         assert_eq!(rt; stop, Some(ReadStop::Fault(TextFault { place, kind })));
     }
+    Ok(())
+}
+
+// A transaction of this length that begins with a number.
+fn numbered(alloc: Global, number: u64, len: usize) -> Result<Vec<u8>, Fail> {
+    let mut tx = Vec::from_slice(alloc, &number.to_le_bytes())?;
+    tx.resize(len, 0)?;
+    Ok(tx)
+}
+
+#[test]
+fn a_transaction_over_the_limit_is_too_long(rt: HostRuntime) -> Result<(), Fail> {
+    let alloc = rt.alloc();
+    let mut text = Vec::from_slice(alloc, &LINE[..65])?;
+    text.resize(8_000_067, b'0')?;
+    let stop = Pool::load(alloc, &text).err();
+    let kind = Kind::TxTooLong;
+    assert_eq!(rt; stop, Some(ReadStop::Fault(TextFault { place: 1, kind })));
+    Ok(())
+}
+
+#[test]
+fn the_line_that_finds_no_room_is_named(rt: HostRuntime) -> Result<(), Fail> {
+    let alloc = rt.alloc();
+    let mut text = Vec::new(alloc);
+    for i in 0..50_001u64 {
+        let tx = i.to_le_bytes();
+        text.extend_from_slice(hex::encode(alloc, &wtxid(&tx).0)?.as_bytes())?;
+        text.push(b' ')?;
+        text.extend_from_slice(hex::encode(alloc, &tx)?.as_bytes())?;
+        text.push(b'\n')?;
+    }
+    let stop = Pool::load(alloc, &text).err();
+    let kind = Kind::PoolFull;
+    assert_eq!(rt;
+        stop,
+        Some(ReadStop::Fault(TextFault {
+            place: 50_001,
+            kind
+        }))
+    );
     Ok(())
 }
 
@@ -191,5 +197,28 @@ fn a_pool_at_the_limit_of_transactions_is_full(rt: HostRuntime) -> Result<(), Fa
         let tx = Vec::from_slice(alloc, &tx.to_le_bytes())?;
         assert_eq!(rt; put(&mut pool, tx)?, Some(inserted));
     }
+    Ok(())
+}
+
+#[test]
+fn a_pool_at_the_limit_of_bytes_is_full(rt: HostRuntime) -> Result<(), Fail> {
+    let alloc = rt.alloc();
+    let mut pool = Pool::empty(alloc);
+    for i in 0..33 {
+        put(&mut pool, numbered(alloc, i, TX_LIMIT)?)?;
+    }
+    for (number, len, inserted, bytes) in [
+        (33, 2_217_729, Inserted::Full, 132_000_000),
+        (34, 2_217_720, Inserted::New, 134_217_720),
+        (35, 9, Inserted::Full, 134_217_720),
+        (36, 8, Inserted::New, 134_217_728),
+        (37, 1, Inserted::Full, 134_217_728),
+        (36, 8, Inserted::Present, 134_217_728),
+    ] {
+        let tx = numbered(alloc, number, len)?;
+        assert_eq!(rt; put(&mut pool, tx)?, Some(inserted));
+        assert_eq!(rt; pool.byte_len(), bytes);
+    }
+    assert_eq!(rt; pool.len(), 35);
     Ok(())
 }
