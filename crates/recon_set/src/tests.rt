@@ -95,11 +95,17 @@ fn what_a_peer_lacks_is_announced(rt: HostRuntime) {
 #[test]
 #[tactic(auto, unfolding(pool_rules::specs::Pools::AreDistinctIds))]
 fn a_snapshot_of_pairs_makes_its_sums(rt: HostRuntime) {
-    let pairs = [(Hash32([1; 32]), 5), (Hash32([2; 32]), 7)];
+    let ids = [Hash32([1; 32]), Hash32([2; 32]), Hash32([3; 32])];
+    let pairs = [(ids[0], 5), (ids[1], 7), (ids[2], 5)];
     let snapshot = Snapshot::<Gf32>::of(rt.alloc(), &pairs).expect(&rt, "memory");
-    assert_eq!(rt; snapshot.len(), 2);
+    assert_eq!(rt; snapshot.len(), 3);
+    let sketched = snapshot.sketched().expect(&rt, "memory");
+    assert_eq!(rt; sketched.as_slice(), [7].as_slice());
+    let aside = snapshot.aside().expect(&rt, "memory");
+    assert_eq!(rt; aside.as_slice(), [ids[0], ids[2]].as_slice());
+    assert_eq!(rt; snapshot.by_short(5), None);
     let sketch = snapshot.sketch(2).expect(&rt, "memory");
-    assert_eq!(rt; sketch.sums(), [Gf32::new(2), Gf32::new(0x3e)].as_slice());
+    assert_eq!(rt; sketch.sums(), [Gf32::new(7), Gf32::new(0x6b)].as_slice());
 }
 
 #[test]
