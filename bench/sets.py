@@ -4,8 +4,9 @@
   bench/sets.py [--keep]
 
 `add` and `remove_all` take turns with `rows`, which adds the 4,096 odd powers of as many short ids to as many sums and
-does nothing else: what the sums of a set cost at least. All short ids differ, so each change costs a row. A row of what is
-printed has the best of several rounds in milliseconds, and the time over that of `rows`.
+does nothing else: what the sums of a set cost at least. All short ids differ, so each change costs a row. All of it over
+both fields of 2^32 elements: the plain one, and the one by lanes that the program uses. A row of what is printed has the
+best of several rounds in milliseconds, and the time over that of `rows`.
 
 The calls are timed by a program of its own, which is laid out beside copies of the crates in a temporary folder, proved
 and built there (some minutes the first time), and run.
@@ -15,13 +16,16 @@ import sys
 sys.dont_write_bytecode = True
 from timed import is_kept, lines_of
 
-USES = ["base_types", "field_core", "pool_rules", "recon_set"]
+USES = ["base_types", "clmul_lanes", "field_core", "pool_rules", "recon_set"]
 ROUNDS = 3
 
 PROGRAM = r'''//! Times a set that is filled and emptied.
 #![tactic(auto)]
 
+ghost use Rattle.std.specs.Prelude.{◌≡◌};
+
 use base_types::Hash32;
+use clmul_lanes::Lane32;
 use field_core::{Field, Gf32};
 use pool_rules::POOL_LIMIT;
 use recon_set::ReconSet;
@@ -44,7 +48,7 @@ fn numbered(alloc: Global) -> Result<Vec<Hash32>, AllocError> {
 }
 
 /// Adds each id that isn't there, under a short id of its own.
-fn fill(set: &mut ReconSet<Gf32>, ids: &[Hash32]) {
+fn fill<F: Field>(set: &mut ReconSet<F>, ids: &[Hash32]) {
     let mut short = 1u32;
     for id in ids {
         short = short.wrapping_add(0x9e37_79b9);
@@ -55,11 +59,13 @@ fn fill(set: &mut ReconSet<Gf32>, ids: &[Hash32]) {
 }
 
 /// Adds as many rows of odd powers to the sums.
-fn add_rows(sums: &mut [Gf32], count: usize) {
+fn add_rows<F: Field>(sums: &mut [F], count: usize)
+    requires { F.BITS ≡ 32 }
+{
     let mut short = 1u32;
     for _ in 0..count {
         short = short.wrapping_add(0x9e37_79b9);
-        Gf32::odd_powers_into(sums, Gf32::new(short));
+        F::odd_powers_into(sums, F::from_bits(u64::from(short)));
     }
 }
 
@@ -68,26 +74,29 @@ fn nanoseconds(rt: &impl Clock, start: Instant) -> io::Result<u128> {
 }
 
 /// The times of the three, and how many ids the set has behind them.
-fn print_round(rt: &HostRuntime, ids: &[Hash32], sums: &mut [Gf32]) -> io::Result<()> {
-    let mut set = ReconSet::empty(rt.alloc());
+fn print_round<F: Field>(rt: &HostRuntime, field: &str, ids: &[Hash32]) -> io::Result<()>
+    requires { F.BITS ≡ 32 }
+{
+    let mut set = ReconSet::<F>::empty(rt.alloc());
+    let mut sums = vec![in rt.alloc(); F::ZERO; 4096]?;
     let start = Instant::now(rt)?;
     fill(&mut set, ids);
-    println!(rt; "time add {} {}", nanoseconds(rt, start)?, set.len())?;
+    println!(rt; "{field} add {} {}", nanoseconds(rt, start)?, set.len())?;
     let start = Instant::now(rt)?;
     set.remove_all(ids);
-    println!(rt; "time remove_all {} {}", nanoseconds(rt, start)?, set.len())?;
+    println!(rt; "{field} remove_all {} {}", nanoseconds(rt, start)?, set.len())?;
     let start = Instant::now(rt)?;
-    add_rows(sums, ids.len());
-    println!(rt; "time rows {} {}", nanoseconds(rt, start)?, sums.len())?;
+    add_rows(sums.as_mut_slice(), ids.len());
+    println!(rt; "{field} rows {} {}", nanoseconds(rt, start)?, sums.len())?;
     Ok(())
 }
 
 fn main(rt: HostRuntime) -> io::Result<()> {
     let alloc = rt.alloc();
     let ids = numbered(alloc)?;
-    let mut sums = vec![in alloc; Gf32::new(0); 4096]?;
     for _ in 0..[ROUNDS] {
-        print_round(&rt, ids.as_slice(), sums.as_mut_slice())?;
+        print_round::<Gf32>(&rt, "plain", ids.as_slice())?;
+        print_round::<Lane32>(&rt, "lanes", ids.as_slice())?;
     }
     Ok(())
 }
@@ -99,12 +108,15 @@ LEFT = {"add": "50000", "remove_all": "0", "rows": "4096"}
 def main():
     best = {}
     for line in lines_of(PROGRAM.replace("[ROUNDS]", str(ROUNDS)), USES, is_kept(__doc__)):
-        _, name, time, left = line.split()
+        field, name, time, left = line.split()
         if left != LEFT[name]:
             sys.exit(f"{name} leaves {left}")
-        best[name] = min(int(time), best.get(name, int(time)))
-    for name in ["add", "remove_all"]:
-        print(f"{name:10} {best[name] / 1e6:9.1f} ms  rows {best['rows'] / 1e6:9.1f} ms  {best[name] / best['rows']:5.2f}")
+        best[field, name] = min(int(time), best.get((field, name), int(time)))
+    for field in ["plain", "lanes"]:
+        rows = best[field, "rows"]
+        for name in ["add", "remove_all"]:
+            time = best[field, name]
+            print(f"{field} {name:10} {time / 1e6:9.1f} ms  rows {rows / 1e6:9.1f} ms  {time / rows:5.2f}")
 
 
 main()
