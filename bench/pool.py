@@ -57,10 +57,13 @@ fn file(alloc: Global) -> Result<Vec<u8>, AllocError> {
 fn read(alloc: Global, text: &[u8]) -> Result<Vec<Vec<u8>>, AllocError> {
     let mut kept = Vec::new(alloc);
     for line in TextLines::of(text) {
-        let Some((id, digits)) = line.bytes.split_at_checked(65) else {
+        let Some((id, behind)) = line.bytes.split_at_checked(64) else {
             continue;
         };
-        let (Ok(id), Ok(tx)) = (hex::decode(alloc, &id[..64]), hex::decode(alloc, digits)) else {
+        let Some((_, digits)) = behind.split_at_checked(1) else {
+            continue;
+        };
+        let (Ok(id), Ok(tx)) = (hex::decode(alloc, id), hex::decode(alloc, digits)) else {
             continue;
         };
         if wtxid(&tx).0.as_slice() == id.as_slice() {
