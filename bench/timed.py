@@ -1,4 +1,4 @@
-"""Runs a program that times or counts calls of the libraries. bench/field.py, recurrence.py and false_answers.py use it."""
+"""Runs a program that times or counts calls of the libraries, for the scripts beside it."""
 import argparse, os, shutil, subprocess, sys, tempfile
 
 TOP = os.path.dirname(os.path.dirname(os.path.abspath(__file__)))
