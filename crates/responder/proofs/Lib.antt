@@ -1,0 +1,3 @@
+pub mod AskFaults
+pub mod Portions
+pub mod Steps
