@@ -6,6 +6,8 @@ mod asks;
 mod fault;
 mod responder;
 mod round;
+#[cfg(test)]
+mod tests;
 
 pub use fault::ResponderFault;
 pub use responder::Responder;
