@@ -1,7 +1,7 @@
 //! The lines of a text as an iterator.
 
-ghost use Rattle.std.specs.Prelude.{◌≡◌, length};
-ghost use Rattle.line_rules.specs.Lines.{lines_of};
+ghost use Rattle.std.specs.Prelude.{◌≡◌, ◌+◌, ◌<◌, ◌^◌, length};
+ghost use Rattle.line_rules.specs.Lines.{lines, lines_of, numbered_lines};
 
 use crate::cut::cut;
 use std::marker::Model;
@@ -44,6 +44,14 @@ impl<'a> TextLines<'a> {
             rest: text,
             number: 1,
         }
+    }
+
+    /// The lines of `text`, the first of which has this number.
+    pub fn numbered_from(number: u64, text: &'a [u8]) -> Self
+        requires { number + length text.now < 2 ^ 64 }
+        ensures { result ≡ numbered_lines number (lines text.now) }
+    {
+        TextLines { rest: text, number }
     }
 }
 

@@ -1,8 +1,8 @@
 -- The elements that lines spell, up to the first line that spells none.
-use Rattle.std.specs.Prelude.{ℕ, List, [], ◌∷◌, Option, Some, None, Result, Ok, Err}
+use Rattle.std.specs.Prelude.{◌≡◌, ◌≤◌, ℕ, List, [], ◌∷◌, length, take, drop, Option, Some, None, Result, Ok, Err}
 use Rattle.base_types.specs.declared.text.Kind.{Kind}
 use Rattle.base_types.specs.declared.text.TextFault.{TextFault}
-use Rattle.line_rules.specs.Lines.{NumberedLine}
+use Rattle.line_rules.specs.Lines.{NumberedLine, lines}
 use Rattle.sketch_text_rules.specs.Elements.{element_of}
 
 -- an element before others; where there is none, the others aren't read
@@ -24,3 +24,9 @@ fault_at l (Err k) later = Some (record { place = l.number; kind = k })
 unfoldable pub first_fault : List NumberedLine → Option TextFault
 first_fault [] = None
 first_fault (l ∷ ls) = fault_at l (element_of l.bytes) (first_fault ls)
+
+-- the first line has 8 bytes, ends in LF alone and spells the element e
+pub record IsPlain (text : List ℕ) (e : ℕ) : Type 0 where
+  pub within : 9 ≤ length text
+  pub first : lines text ≡ take 8 text ∷ lines (drop 9 text)
+  pub element : element_of (take 8 text) ≡ Ok e

@@ -2,6 +2,7 @@
 #![tactic(auto)]
 
 mod element;
+mod plain;
 mod reading;
 mod repeats;
 mod set;

@@ -4,7 +4,8 @@ ghost use Rattle.std.specs.Prelude.{◌≡◌, IfOk, IfSome, slice_get};
 ghost use Rattle.line_rules.specs.Lines.{lines_of};
 ghost use Rattle.sketch_text.specs.Readings.{elements_before, first_fault};
 
-use crate::element::{DIGITS, element_of};
+use crate::element::element_of;
+use crate::plain::{LINE, plain_elements};
 use base_types::TextFault;
 use line_text::TextLines;
 use std::alloc::{AllocError, Global};
@@ -23,8 +24,9 @@ pub(crate) fn read(alloc: Global, text: &[u8]) -> Result<Reading, AllocError>
     ensures numbers { IfOk result (λ r. r.numbers.items ≡ elements_before (lines_of text.now)) }
     ensures fault { IfOk result (λ r. r.fault ≡ first_fault (lines_of text.now)) }
 {
-    let mut numbers = Vec::with_capacity(alloc, text.len() / (DIGITS + 1))?;
-    for line in TextLines::of(text) {
+    let mut numbers = plain_elements(alloc, text)?;
+    let plain = numbers.len();
+    for line in TextLines::numbered_from(plain as u64 + 1, &text[LINE * plain..]) {
         match element_of(line.bytes) {
             Ok(number) => numbers.push(number)?,
             Err(kind) => {
