@@ -5,3 +5,4 @@ pub mod Marks
 pub mod Spelled
 pub mod Sets
 pub mod Numbers
+pub mod Seated

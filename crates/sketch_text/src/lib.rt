@@ -5,6 +5,7 @@ mod element;
 mod plain;
 mod reading;
 mod repeats;
+mod seats;
 mod set;
 
 pub use element::element_of;

@@ -6,7 +6,12 @@ ghost use Rattle.std.specs.List.Sorted.{IsNonDecreasing};
 ghost use Rattle.field_rules.specs.Lists.{AreDistinct};
 ghost use Rattle.sketch_text.specs.Repeats.{HasRepeats, IsFirstRepeat, IsIndexOf};
 
+use crate::seats::are_seen_distinct;
 use std::alloc::{AllocError, Global};
+
+/// How many numbers a table of seats is made for at most. It takes 8 bytes a number, half a megabyte at this limit; more
+/// numbers are sorted, in half of the memory.
+const TABLE_LIMIT: usize = 1 << 16;
 
 /// Of numbers in ascending order, those that are equal to the one before them.
 fn repeats_of(alloc: Global, sorted: &[u32]) -> Result<Vec<u32>, AllocError>
@@ -63,6 +68,9 @@ fn first_marked(
 pub(crate) fn first_repeat(alloc: Global, numbers: &[u32]) -> Result<Option<usize>, AllocError>
     ensures { IfOk result (λ index. MatchOption index (AreDistinct numbers.now) (IsFirstRepeat numbers.now)) }
 {
+    if numbers.len() <= TABLE_LIMIT && are_seen_distinct(alloc, numbers)? {
+        return Ok(None);
+    }
     let mut sorted = numbers.to_vec(alloc)?;
     sorted.sort_unstable();
     let repeats = repeats_of(alloc, sorted.as_slice())?;
