@@ -9,7 +9,7 @@ use crate::Source;
 use std::alloc::Global;
 
 /// How many bytes one call reads at most.
-const PIECE: usize = 65536;
+const PIECE: usize = 16384;
 
 /// Why a source wasn't read to its end.
 #[derive(Clone, Copy, Debug, PartialEq, Eq)]
@@ -23,7 +23,7 @@ pub enum ReadEnd {
 }
 
 /// Reads all bytes that are left, at most `limit` of them. Takes memory for them and for one piece
-/// of at most 64 KB. No read follows one that failed.
+/// of at most 16 KB. No read follows one that failed.
 pub fn read_all<S: Source>(alloc: Global, source: &mut S, limit: usize) -> Result<Vec<u8>, ReadEnd>
     requires { limit < usize.MAX }
     ensures all { IfOk result (λ bytes. Consumes (S.left source.old) (S.left source.new) bytes.items) }
