@@ -29,7 +29,7 @@ byte_by true b rest h = absurd (cc)
 byte_by false b rest h = refl
 
 -- a word and a space behind it
-fields-word : (word rest : List ℕ) → spaceless word ≡ true → fields_of (word ++ (32 ∷ rest)) ≡ word ∷ fields_of rest
+pub fields-word : (word rest : List ℕ) → spaceless word ≡ true → fields_of (word ++ (32 ∷ rest)) ≡ word ∷ fields_of rest
 unfolding fields_of
 fields-word [] rest h = refl
 fields-word (b ∷ word) rest h =
@@ -37,7 +37,7 @@ fields-word (b ∷ word) rest h =
     byte_by (b == 32) b (word ++ (32 ∷ rest)) tests.0 ∙ ap (with_first_byte b) (fields-word word rest tests.1)
 
 -- the last word
-fields-last : (word : List ℕ) → spaceless word ≡ true → fields_of word ≡ word ∷ []
+pub fields-last : (word : List ℕ) → spaceless word ≡ true → fields_of word ≡ word ∷ []
 unfolding fields_of
 fields-last [] h = refl
 fields-last (b ∷ word) h =

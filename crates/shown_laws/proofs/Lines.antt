@@ -105,7 +105,7 @@ filled_by true x xs e more h =
     and_from (nat_lt x (2 ^ 8)) (are_bytes xs) (le-leb (suc x) (2 ^ 8) (omega arith)) (more h)
 filled_by false x xs e more h = zeros (x ∷ xs) h
 
-filled_bytes : (xs : List ℕ) → is_filled xs ≡ true → are_bytes xs ≡ true
+pub filled_bytes : (xs : List ℕ) → is_filled xs ≡ true → are_bytes xs ≡ true
 unfolding is_filled
 filled_bytes [] h = refl
 filled_bytes (x ∷ xs) h = filled_by (is_printable x) x xs refl (filled_bytes xs) h
@@ -192,6 +192,12 @@ shown_message-message_text m sent =
 
 one_some : (m n : Message) → (let o : Option Message = Some m in o ≡ Some n) → m ≡ n
 one_some m n e = cc
+
+-- the fields of a message's line are the words that it was shown by
+pub fields_of-message_text : (m : Message) → IsMessage m → fields_of (message_text m) ≡ words_of m
+fields_of-message_text m sent =
+    let h = words_by m sent.within sent.ranged in
+    ap (λ words. fields_of (join_with_byte 32 words)) h.words ∙ (fields-joined h.first h.more h.spaces ∙ sym h.words)
 
 -- so two messages never share a line
 pub message_text-injective : (m n : Message) → IsMessage m → IsMessage n → message_text m ≡ message_text n → m ≡ n

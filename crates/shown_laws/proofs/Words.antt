@@ -49,10 +49,10 @@ digits_push k [] c v h e =
 digits_push k (b ∷ ds) c v h e = digits_by (is_digit b) k b c v ds (digits_push (k * 10 + (b - 48)) ds c v h) e
 
 -- digits, at least one, that are read as a number
-record IsNumber (n : ℕ) (ds : List ℕ) : Type 0 where
-  some : 0 < length ds
-  digits : list_all is_digit ds ≡ true
-  said : number_of ds ≡ Some n
+pub record IsNumber (n : ℕ) (ds : List ℕ) : Type 0 where
+  pub some : 0 < length ds
+  pub digits : list_all is_digit ds ≡ true
+  pub said : number_of ds ≡ Some n
 
 digit_of : (n : ℕ) → n < 10 → is_digit (48 + n) ≡ true
 digit_of n h = and_from (nat_le 48 (48 + n)) (nat_le (48 + n) 57) (le-leb 48 (48 + n) (omega arith)) (le-leb (48 + n) 57 (omega arith))
@@ -72,7 +72,7 @@ more_digits n ds low h = record {
   said = digits_push 0 ds (48 + n % 10) (n / 10) (digit_of (n % 10) (omega arith)) h.said ∙ ap (λ k. Some k) (omega arith);
 }
 
-decimal_number : (n : ℕ) → n < 2 ^ 64 → IsNumber n (decimal n)
+pub decimal_number : (n : ℕ) → n < 2 ^ 64 → IsNumber n (decimal n)
 decimal_number = decimal_by_steps IsNumber one_digit more_digits
 
 pub number-reads : (n : ℕ) → n < 2 ^ 64 → Reads number_of (decimal n) n
@@ -87,7 +87,7 @@ signed_by n (b ∷ ds) number =
     ∙ ap positive_number number.said
 
 -- a number of n bits and a sign is one of 64 bits
-low_bits : (n k : ℕ) → n ≤ 63 → nat_lt k (2 ^ n) ≡ true → suc k < 2 ^ 64
+pub low_bits : (n k : ℕ) → n ≤ 63 → nat_lt k (2 ^ n) ≡ true → suc k < 2 ^ 64
 low_bits n k h fits = let below = ltb-true k (2 ^ n) fits in let power : 2 ^ n ≤ 2 ^ 63 = pow-le-pow_right {n = 2} (lit< tt) h in omega arith
 
 pub signed-reads : (n : ℕ) (z : ℤ) → n ≤ 63 → fits_signed n z ≡ true → Reads signed_of (signed_decimal z) z
@@ -100,7 +100,7 @@ signed-reads n (negsuc k) h fits =
 
 -- ---- bytes
 
-is_bytes : (xs : List ℕ) → are_bytes xs ≡ true → IsBytes xs
+pub is_bytes : (xs : List ℕ) → are_bytes xs ≡ true → IsBytes xs
 is_bytes xs h i = small_byte xs i h
 
 pub hex-reads : (xs : List ℕ) → are_bytes xs ≡ true → Reads (λ word. decoded_bytes (decode_of word)) (encode_lower xs) xs
@@ -110,7 +110,7 @@ hex-reads xs h =
     record { spaces = record { none = no-space is_hex_digit refl (encode_lower xs) (list_all-from_AllPass is_hex_digit (encode_lower xs) ok.1) }; said = ap decoded_bytes back }
 
 -- digits of bytes are no `-`
-no_dash : (b : ℕ) (xs : List ℕ) → bytes_eq (encode_lower (b ∷ xs)) (codes "-") ≡ false
+pub no_dash : (b : ℕ) (xs : List ℕ) → bytes_eq (encode_lower (b ∷ xs)) (codes "-") ≡ false
 no_dash b xs = by (bytes_eq (encode_lower (b ∷ xs)) (codes "-")) refl
   where
     by : (t : Bool) → bytes_eq (encode_lower (b ∷ xs)) (codes "-") ≡ t → t ≡ false
@@ -132,7 +132,7 @@ bytes-reads (b ∷ xs) h = some-bytes-reads b xs h
 
 -- ---- numbers of 8 and of 16 digits
 
-high_bytes : (k n : ℕ) → are_bytes (bytes_high_first k n) ≡ true
+pub high_bytes : (k n : ℕ) → are_bytes (bytes_high_first k n) ≡ true
 high_bytes zero n = refl
 high_bytes (suc k) n = and_from (nat_lt (byte_at k n) (2 ^ 8)) (are_bytes (bytes_high_first k n)) (byte_small k n) (high_bytes k n)
 
@@ -176,16 +176,16 @@ no_colon (b ∷ ds) h (suc k) low = no_colon ds (and_parts (is_digit b) (list_al
 
 -- a number ends at the first colon
 module _ (ds rest : List ℕ) (digits : list_all is_digit ds ≡ true) where
-  colon : position_or_len is_colon (ds ++ (58 ∷ rest)) ≡ length ds
+  pub colon : position_or_len is_colon (ds ++ (58 ∷ rest)) ≡ length ds
   colon =
       position_or_len_is is_colon (ds ++ (58 ∷ rest)) (length ds) 0 (let size = length-append ds (58 ∷ rest) in omega arith)
       (λ k low. ap is_colon (get_or_append_left ds (58 ∷ rest) 0 k low) ∙ no_colon ds digits k low)
       (λ low. ap is_colon (get_or-append_seam ds 58 rest 0))
 
-  before_colon : before_first is_colon (ds ++ (58 ∷ rest)) ≡ ds
+  pub before_colon : before_first is_colon (ds ++ (58 ∷ rest)) ≡ ds
   before_colon = ap (λ n. take n (ds ++ (58 ∷ rest))) colon ∙ take_front (length ds) ds (58 ∷ rest) refl
 
-  after_colon : after_first is_colon (ds ++ (58 ∷ rest)) ≡ rest
+  pub after_colon : after_first is_colon (ds ++ (58 ∷ rest)) ≡ rest
   after_colon =
       ap (λ n. drop (n + 1) (ds ++ (58 ∷ rest))) colon
       ∙ (ap (drop (length ds + 1)) (sym (append_assoc ds (58 ∷ []) rest))
