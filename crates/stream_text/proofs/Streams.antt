@@ -1,18 +1,17 @@
 -- A stream that is shown message by message.
-use Rattle.std.proofs.Common.{◌≡◌, ℕ, zero, suc, ◌+◌, ◌-◌, ◌<◌, ◌≤◌, Bool, true, false, List, [], ◌∷◌, ◌++◌, Option, Some, None, Result, Ok, Err, length, take, drop, nat_le, refl, sym, ap, subst, ◌∙◌, arith, append_assoc, append-nil, length-drop}
+use Rattle.std.proofs.Common.{◌≡◌, ℕ, zero, suc, ◌+◌, ◌<◌, ◌≤◌, List, [], ◌∷◌, ◌++◌, Option, Some, None, Result, Ok, Err, length, take, drop, nat_le, refl, sym, ap, subst, ◌∙◌, arith, append_assoc, append-nil, length-drop}
 use Rattle.std.proofs.lemmas.List.{length-take-le}
 use Rattle.line_rules.specs.Lines.{line}
-use Rattle.wire_rules.specs.Lent.{lent_frame}
 use Rattle.wire_rules.specs.Reading.{message_of}
 use Rattle.wire_rules.specs.Shown.{message_text}
-use Rattle.wire_rules.specs.Stream.{Front, PartialFrame, WholeFrame, FaultyFrame, StreamFault, StreamFrameFault, StreamPayloadFault, StreamRead, front_by_length, front_of, later_offset, stream_by_front, stream_by_message, stream_from, with_message, header_of}
+use Rattle.wire_rules.specs.Stream.{Front, PartialFrame, WholeFrame, FaultyFrame, StreamFault, StreamRead, front_by_length, front_of, later_offset, stream_by_front, stream_by_message, stream_from, with_message, header_of}
 use Rattle.wire_rules.specs.declared.faults.PayloadFault.{PayloadFault}
 use Rattle.wire_rules.specs.declared.frame.Frame.{Frame}
 use Rattle.wire_rules.specs.declared.frame.FrameFault.{FrameFault}
 use Rattle.wire_rules.specs.declared.message.Message.{Message}
-use Rattle.stream_laws.proofs.Found.{Judged, length_judged, whole-size}
+use Rattle.stream_laws.proofs.Found.{length_judged, whole-size}
 use Rattle.p2p_frame.specs.Feeding.{frame_in}
-use Rattle.protocol_text_rules.specs.Works.{StreamStop, messages_in, messages_to_end, show_text, stop_at, whole_stream}
+use Rattle.protocol_text_rules.specs.Works.{StreamStop, messages_in, messages_to_end, stop_at, whole_stream}
 use Rattle.protocol_text_rules.specs.declared.limits.TheConstants.{MAIN_MAGIC}
 use Rattle.protocol_text_rules.specs.declared.stream.StreamKind.{StreamKind}
 use Rattle.protocol_text_rules.specs.declared.stream.StreamKind.TheVariants as stream
