@@ -14,6 +14,7 @@ mark_of command.Merge = 114
 mark_of command.Decode = 106
 mark_of (command.Ids salt other) = 108
 mark_of command.Show = 119
+mark_of command.Pack = 116
 
 mark_in : List (List ℕ) → ℕ
 mark_in [] = 0
@@ -26,6 +27,7 @@ marked words command.Merge form = ap mark_in form
 marked words command.Decode form = ap mark_in form
 marked words (command.Ids salt other) form = ap mark_in form.2
 marked words command.Show form = ap mark_in form
+marked words command.Pack form = ap mark_in form
 
 -- two commands of one name are one command
 same_make : (words : List (List ℕ)) (m n : ℕ) → HasForm words (command.Make m) → HasForm words (command.Make n) → command.Make m ≡ command.Make n
@@ -49,6 +51,7 @@ one_of words command.Merge command.Merge is_c is_d same = refl
 one_of words command.Decode command.Decode is_c is_d same = refl
 one_of words (command.Ids k l) (command.Ids m n) is_c is_d same = same_ids words k l m n is_c is_d
 one_of words command.Show command.Show is_c is_d same = refl
+one_of words command.Pack command.Pack is_c is_d same = refl
 one_of words c d _ _ same = absurd (omega (arith, same))
 
 -- words ask for one command
@@ -63,3 +66,4 @@ formless_since name first second none command.Decode form = cc form
 formless_since name first second none (command.Ids k l) form =
     let same : form.1 ≡ second = cc form.2 in none l (subst (λ (w : List ℕ). IsSalt w l) same form.4)
 formless_since name first second none command.Show form = cc form
+formless_since name first second none command.Pack form = cc form

@@ -18,6 +18,7 @@ HasForm words command.Merge = words ≡ codes "merge" ∷ []
 HasForm words command.Decode = words ≡ codes "decode" ∷ []
 HasForm words (command.Ids salt other) = (first : List ℕ) × (second : List ℕ) × (words ≡ codes "ids" ∷ first ∷ second ∷ []) × IsSalt first salt × IsSalt second other
 HasForm words command.Show = words ≡ codes "show" ∷ []
+HasForm words command.Pack = words ≡ codes "pack" ∷ []
 
 -- the words ask for no command
 abbrev pub IsFormless : List (List ℕ) → Type 0

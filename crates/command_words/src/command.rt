@@ -23,6 +23,8 @@ pub enum Command {
     Ids { salt: u64, other: u64 },
     /// Write the messages of the frames of the input, a line each.
     Show,
+    /// Write the frames of the messages that the lines of the input show.
+    Pack,
 }
 
 /// The capacity of a sketch that the text spells in decimal digits.
@@ -42,6 +44,7 @@ fn without_argument(name: &str) -> Option<Command>
         "merge" => Some(Command::Merge),
         "decode" => Some(Command::Decode),
         "show" => Some(Command::Show),
+        "pack" => Some(Command::Pack),
         _ => None,
     }
 }

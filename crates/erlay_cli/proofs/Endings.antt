@@ -11,7 +11,7 @@ use Rattle.line_rules.specs.Lines.{line}
 use Rattle.sketch_text_rules.specs.Elements.{set_in}
 use Rattle.sketch_text_rules.specs.Faults.{too_long_text}
 use Rattle.sketch_text_rules.specs.Limits.{input_limit}
-use Rattle.protocol_text_rules.specs.Works.{StreamStop, ids_in, ids_text, messages_in, with_text}
+use Rattle.protocol_text_rules.specs.Works.{StreamStop, ids_in, ids_text, messages_in, pack_bytes, shown_in, with_text}
 use Rattle.stream_text.specs.Outcomes.{shown_lines}
 use Rattle.erlay_base.specs.Causes.{HasRisen}
 use Rattle.erlay_cli.specs.SketchLines.{sketch_in, sum_in}
@@ -119,6 +119,7 @@ work_ends command.Merge input = summed_ends (sum_in input)
 work_ends command.Decode input = decoded_ends (sketch_in input)
 work_ends (command.Ids salt other) input = text_ends (with_text (ids_text salt other) (ids_in input))
 work_ends command.Show input = stream_ends (shown_lines (messages_in input))
+work_ends command.Pack input = text_ends (with_text pack_bytes (shown_in input))
 
 answer_ends : (c : Command) (input : List ℕ) → ((answer_to c input).status ≢ status.WriteFault) × ((answer_to c input).status ≢ status.Usage)
 answer_ends c input = elim (cases_lt input_limit (length input)) [

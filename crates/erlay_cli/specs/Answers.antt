@@ -8,7 +8,7 @@ use Rattle.sketch_text_rules.specs.Elements.{no_set_text, set_in, set_text}
 use Rattle.sketch_text_rules.specs.Faults.{bad_input_text, too_long_text}
 use Rattle.sketch_text_rules.specs.Limits.{input_limit}
 use Rattle.protocol_text_rules.specs.Ends.{bad_stream_text}
-use Rattle.protocol_text_rules.specs.Works.{StreamStop, ids_in, ids_text, messages_in, with_text}
+use Rattle.protocol_text_rules.specs.Works.{StreamStop, ids_in, ids_text, messages_in, pack_bytes, shown_in, with_text}
 use Rattle.stream_text.specs.Outcomes.{shown_lines}
 use Rattle.erlay_cli.specs.SketchLines.{sketch_in, sum_in}
 use Rattle.command_words.specs.declared.command.Command.{Command}
@@ -69,6 +69,7 @@ answer_within_limit command.Merge input = merge_answer (sum_in input)
 answer_within_limit command.Decode input = decode_answer (sketch_in input)
 answer_within_limit (command.Ids salt other) input = text_answer (with_text (ids_text salt other) (ids_in input))
 answer_within_limit command.Show input = stream_answer (shown_lines (messages_in input))
+answer_within_limit command.Pack input = text_answer (with_text pack_bytes (shown_in input))
 
 -- what a command answers to an input
 abbrev pub answer_to : Command → List ℕ → Answer

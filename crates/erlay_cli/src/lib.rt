@@ -7,6 +7,7 @@ mod ids;
 mod laws;
 mod make;
 mod merge;
+mod pack;
 mod program;
 mod report;
 mod show;

@@ -16,6 +16,7 @@ use crate::decode::decode;
 use crate::ids::ids;
 use crate::make::make;
 use crate::merge::merge;
+use crate::pack::pack;
 use crate::report::{Report, Stop};
 use crate::show::show;
 use crate::status::Status;
@@ -100,6 +101,7 @@ fn work(alloc: Global, command: Command, input: &[u8]) -> Result<Report, Stop>
         Command::Decode => decode(alloc, input),
         Command::Ids { salt, other } => ids(alloc, salt, other, input),
         Command::Show => show(alloc, input),
+        Command::Pack => pack(alloc, input),
     };
     answered.map_err(|_| Stop::OutOfMemory)
 }
