@@ -85,86 +85,93 @@ fn feed(alloc: Global, first: &[u8], rest: &[u8], size: usize) -> Result<Seen, O
     Ok(seen)
 }
 
+/// What a feeder answers of a stream: frames, bytes of their payloads, the fault, bytes unread, and the place.
+type Answer = (u64, u64, Option<FrameFault>, usize, u64);
+
+/// What stands behind a `verack`, and what a feeder answers of both.
+const STREAMS: &[(&[u8], Answer)] = &[
+    (b"", (1, 0, None, 0, 24)),
+    (
+        b"\xf9\xbe\xb4\xd9tx\0\0\0\0\0\0\0\0\0\0\x05\0\0\0\x95\x95\xc9\xdfhello\xf9\xbe",
+        (2, 5, None, 2, 53),
+    ),
+    (
+        b"\xf9\xbe\xb4\xd9 ~abcdefghij\x01\0\0\0\xc0\xb0\x57\xf5\xff\xf9\xbe\xb4\xd9verack\0\0\0\0\0\0\0\0\0\0\x5d\xf6\xe0\xe2",
+        (3, 1, None, 0, 73),
+    ),
+    (
+        b"\xf9\xbe\xb4\xd9tx\0\0\0\0\0\0\0\0\0\0\x05\0\0\0\x95\x95\xc9\xdfhell",
+        (1, 0, None, 28, 24),
+    ),
+    (
+        b"\xf9\xbe\xb4\xd9tx\0\0\0\0\0\0\0\0\0\0\x00\x09\x3d\0\0\0\0\0",
+        (1, 0, None, 24, 24),
+    ),
+    (
+        b"\xf9\xbe\xb4\xd9tx\0\0\0\0\0\0\0\0\0\0\x01\x09\x3d\0\0\0\0\0",
+        (
+            1,
+            0,
+            Some(FrameFault::TooLong {
+                at: 24,
+                len: 4_000_001,
+            }),
+            0,
+            24,
+        ),
+    ),
+    (
+        b"\xf9\xbe\xb4\xd9tx\0\0\0\0\0\0\0\0\0\x01\xff\xff\xff\xff\0\0\0\0",
+        (1, 0, Some(FrameFault::BadCommand { at: 24 }), 0, 24),
+    ),
+    (
+        b"\xf9\xbe\xb4\xd9tx\0x\0\0\0\0\0\0\0\0\0\0\0\0\x5d\xf6\xe0\xe2",
+        (1, 0, Some(FrameFault::BadCommand { at: 24 }), 0, 24),
+    ),
+    (
+        b"\xf9\xbe\xb4\xd9\0\0\0\0\0\0\0\0\0\0\0\0\0\0\0\0\x5d\xf6\xe0\xe2",
+        (1, 0, Some(FrameFault::BadCommand { at: 24 }), 0, 24),
+    ),
+    (
+        b"\xf9\xbe\xb4\xd9t\x7f\0\0\0\0\0\0\0\0\0\0\0\0\0\0\x5d\xf6\xe0\xe2",
+        (1, 0, Some(FrameFault::BadCommand { at: 24 }), 0, 24),
+    ),
+    (
+        b"\xf9\xbe\xb4\xd9t\x1f\0\0\0\0\0\0\0\0\0\0\0\0\0\0\x5d\xf6\xe0\xe2",
+        (1, 0, Some(FrameFault::BadCommand { at: 24 }), 0, 24),
+    ),
+    (
+        b"\0\0\0\0\0\0\0\0\0\0\0\0\0\0\0\0\0\0\0\0\0\0\0\0",
+        (1, 0, Some(FrameFault::BadMagic { at: 24 }), 0, 24),
+    ),
+    (
+        b"\xf9\xbe\xb4\xd9verack\0\0\0\0\0\0\0\0\0\0\x5d\xf6\xe0\xe3",
+        (
+            1,
+            0,
+            Some(FrameFault::BadChecksum {
+                at: 24,
+                stands: [0x5D, 0xF6, 0xE0, 0xE3],
+                computed: [0x5D, 0xF6, 0xE0, 0xE2],
+            }),
+            0,
+            24,
+        ),
+    ),
+];
+
 #[test]
 fn streams_are_read_alike_at_every_cut(rt: HostRuntime) {
-    let at = 24;
-    let bad_command = (1, 0, Some(FrameFault::BadCommand { at }), 0, 24);
-    for (behind, (frames, payload, fault, held, place)) in [
-        (b"".as_slice(), (1, 0, None, 0, 24)),
-        (
-            b"\xf9\xbe\xb4\xd9tx\0\0\0\0\0\0\0\0\0\0\x05\0\0\0\x95\x95\xc9\xdfhello\xf9\xbe",
-            (2, 5, None, 2, 53),
-        ),
-        (
-            b"\xf9\xbe\xb4\xd9 ~abcdefghij\x01\0\0\0\xc0\xb0\x57\xf5\xff\xf9\xbe\xb4\xd9verack\0\0\0\0\0\0\0\0\0\0\x5d\xf6\xe0\xe2",
-            (3, 1, None, 0, 73),
-        ),
-        (
-            b"\xf9\xbe\xb4\xd9tx\0\0\0\0\0\0\0\0\0\0\x05\0\0\0\x95\x95\xc9\xdfhell",
-            (1, 0, None, 28, 24),
-        ),
-        (
-            b"\xf9\xbe\xb4\xd9tx\0\0\0\0\0\0\0\0\0\0\x00\x09\x3d\0\0\0\0\0",
-            (1, 0, None, 24, 24),
-        ),
-        (
-            b"\xf9\xbe\xb4\xd9tx\0\0\0\0\0\0\0\0\0\0\x01\x09\x3d\0\0\0\0\0",
-            (
-                1,
-                0,
-                Some(FrameFault::TooLong { at, len: 4_000_001 }),
-                0,
-                24,
-            ),
-        ),
-        (
-            b"\xf9\xbe\xb4\xd9tx\0\0\0\0\0\0\0\0\0\x01\xff\xff\xff\xff\0\0\0\0",
-            bad_command,
-        ),
-        (
-            b"\xf9\xbe\xb4\xd9tx\0x\0\0\0\0\0\0\0\0\0\0\0\0\x5d\xf6\xe0\xe2",
-            bad_command,
-        ),
-        (
-            b"\xf9\xbe\xb4\xd9\0\0\0\0\0\0\0\0\0\0\0\0\0\0\0\0\x5d\xf6\xe0\xe2",
-            bad_command,
-        ),
-        (
-            b"\xf9\xbe\xb4\xd9t\x7f\0\0\0\0\0\0\0\0\0\0\0\0\0\0\x5d\xf6\xe0\xe2",
-            bad_command,
-        ),
-        (
-            b"\xf9\xbe\xb4\xd9t\x1f\0\0\0\0\0\0\0\0\0\0\0\0\0\0\x5d\xf6\xe0\xe2",
-            bad_command,
-        ),
-        (
-            b"\0\0\0\0\0\0\0\0\0\0\0\0\0\0\0\0\0\0\0\0\0\0\0\0",
-            (1, 0, Some(FrameFault::BadMagic { at }), 0, 24),
-        ),
-        (
-            b"\xf9\xbe\xb4\xd9verack\0\0\0\0\0\0\0\0\0\0\x5d\xf6\xe0\xe3",
-            (
-                1,
-                0,
-                Some(FrameFault::BadChecksum {
-                    at,
-                    stands: [0x5D, 0xF6, 0xE0, 0xE3],
-                    computed: [0x5D, 0xF6, 0xE0, 0xE2],
-                }),
-                0,
-                24,
-            ),
-        ),
-    ] {
+    for (behind, (frames, payload, fault, held, place)) in STREAMS {
         let mut stream = Vec::from_slice(rt.alloc(), VERACK).expect(&rt, "memory");
         stream.extend_from_slice(behind).expect(&rt, "memory");
         let stream = stream.as_slice();
         let want = Some(Seen {
-            frames,
-            payload,
-            fault,
-            held,
-            place,
+            frames: *frames,
+            payload: *payload,
+            fault: *fault,
+            held: *held,
+            place: *place,
         });
         for cut in 0..=stream.len() {
             let (first, rest) = stream.split_at(cut);
