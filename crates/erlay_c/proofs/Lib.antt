@@ -1,0 +1,4 @@
+mod Sets
+mod Toggles
+mod Lengths
+mod Found

@@ -1,0 +1,2 @@
+//! The laws of lists whose items differ, in `proofs/`.
+#![tactic(auto)]
