@@ -58,7 +58,7 @@ size_t erlay_sketch_size(size_t capacity);
 
 /* Writes the sketch of `count` elements, in any order, into the first 4 * capacity of the `room` bytes at `sketch`. What
  * is behind them stays. The time grows by count * capacity, and by count * log(count) for the test whether an element
- * comes twice; the memory is 8 bytes an element and twice the sketch's.
+ * comes twice; the memory is up to 8 bytes an element and some times the sketch's.
  * Codes: ERLAY_CAPACITY_OUT_OF_RANGE, ERLAY_BUFFER_TOO_SHORT, ERLAY_ZERO_ELEMENT, ERLAY_OUT_OF_MEMORY,
  * ERLAY_REPEATED_ELEMENT. */
 ERLAY_ANSWERS erlay_code erlay_make(const uint32_t *elements, size_t count, size_t capacity, uint8_t *sketch, size_t room);
