@@ -44,6 +44,17 @@ module _ {A : Type 0} (ops : Ops A) (k : A) where
       ap (λ z. a ∷ z) (sym (take-append-drop n acc) ∙ ap (λ z. take n acc ++ z) (sym (with_multiple-none (drop n acc))))
   with_multiple-split (suc n) (a ∷ acc) (x ∷ xs) = ap (λ rest. ops.plus a (ops.times k x) ∷ rest) (with_multiple-split n acc xs)
 
+  -- to as many items as the other list has
+  pub front_added : (acc xs part : List A) → part ≡ with_multiple ops (take (length xs) acc) k xs → put_mid 0 (length xs) acc part ≡ with_multiple ops acc k xs
+  front_added acc xs part is =
+      let none : drop (length xs) xs ≡ [] = drop_of_length-le xs {i = length xs} (omega arith) in
+      ap (λ z. z ++ drop (length xs) acc) is
+      ∙ sym
+      (with_multiple-split (length xs) acc xs
+      ∙ ap (λ z. with_multiple ops (take (length xs) acc) k z ++ with_multiple ops (drop (length xs) acc) k (drop (length xs) xs)) (take_all (length xs) xs (omega arith))
+      ∙ ap (λ z. with_multiple ops (take (length xs) acc) k xs ++ with_multiple ops (drop (length xs) acc) k z) none
+      ∙ ap (λ z. with_multiple ops (take (length xs) acc) k xs ++ z) (with_multiple-none (drop (length xs) acc)))
+
   -- w items from m on are done, and the rest are still to come
   pub block_added : (m w : ℕ) (acc xs part : List A) → m + w ≤ length acc → part ≡ with_multiple ops (mid_of m w acc) k (take w (drop m xs))
       → take (m + w) (put_mid m w acc part) ++ with_multiple ops (drop (m + w) (put_mid m w acc part)) k (drop (m + w) xs) ≡ take m acc ++ with_multiple ops (drop m acc) k (drop m xs)

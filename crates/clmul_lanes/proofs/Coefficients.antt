@@ -1,9 +1,11 @@
--- The coefficients of a fraction with one element more.
-use Rattle.std.proofs.Common.{◌≡◌, ℕ, zero, suc, ◌+◌, ◌*◌, ◌<◌, List, [], ◌∷◌, length, get_or, refl, sym, ◌∙◌, ap, arith}
-use Rattle.field_rules.specs.Ops.{Ops, IsRing, power}
+-- A multiple of a list that is added to a part of another, item by item.
+use Rattle.std.proofs.Common.{◌≡◌, ℕ, zero, suc, ◌+◌, ◌-◌, ◌<◌, ◌≤◌, List, [], ◌∷◌, ◌++◌, length, get_or, take, drop, refl, sym, ◌∙◌, ap, arith, length-drop, length-append}
+use Rattle.std.proofs.Math.ListN.{get_or-append}
+use Rattle.std.proofs.lemmas.List.{length-take-le, get_or-take, get_or-drop, get_or-append_right}
+use Rattle.std.proofs.lemmas.Slice.{drop-put_mid}
+use borrow.Rule.Slice.PartMut.{mid_of, put_mid}
+use Rattle.field_rules.specs.Ops.{Ops}
 use Rattle.field_rules.specs.Fields.{with_multiple}
-use Rattle.field_laws.proofs.RingFacts.{one_times, times_zero}
-use Rattle.fraction_laws.specs.Fractions.{denominator, numerator}
 
 module _ {A : Type 0} (ops : Ops A) where
   pub length-with_multiple : (acc : List A) (k : A) (xs : List A) → length (with_multiple ops acc k xs) ≡ length acc
@@ -21,51 +23,51 @@ module _ {A : Type 0} (ops : Ops A) where
   get_or-with_multiple (a ∷ acc) k (x ∷ xs) zero d lt inside = refl
   get_or-with_multiple (a ∷ acc) k (x ∷ xs) (suc j) d lt inside = get_or-with_multiple acc k xs j d (omega arith) (omega arith)
 
-module _ {A : Type 0} (ops : Ops A) (ring : IsRing ops) (e : A) (es top bottom top_up bottom_up : List A) (n : ℕ)
-    (top_is : (j : ℕ) → j < suc n → get_or top j ops.zero ≡ numerator ops 0 es j) (bottom_is : (j : ℕ) → j < suc n → get_or bottom j ops.zero ≡ denominator ops es j)
-    (top_size : length top ≡ suc n) (bottom_size : length bottom ≡ suc n) (top_up_size : length top_up ≡ suc n) (bottom_up_size : length bottom_up ≡ suc n)
-    (top_up_first : get_or top_up 0 ops.zero ≡ ops.zero) (top_up_later : (j : ℕ) → j < n → get_or top_up (suc j) ops.zero ≡ get_or top j ops.zero)
-    (bottom_up_first : get_or bottom_up 0 ops.zero ≡ ops.zero) (bottom_up_later : (j : ℕ) → j < n → get_or bottom_up (suc j) ops.zero ≡ get_or bottom j ops.zero) where
-  power_one : power ops e (2 * 0 + 1) ≡ e
-  unfolding power
-  power_one = one_times ops ring e
+  -- and beyond the other list
+  pub get_or-with_multiple_beyond : (acc : List A) (k : A) (xs : List A) (j : ℕ) (d : A) → length xs ≤ j → get_or (with_multiple ops acc k xs) j d ≡ get_or acc j d
+  unfolding with_multiple
+  get_or-with_multiple_beyond [] k xs j d le = refl
+  get_or-with_multiple_beyond (a ∷ acc) k [] j d le = refl
+  get_or-with_multiple_beyond (a ∷ acc) k (x ∷ xs) zero d le = absurd (omega arith)
+  get_or-with_multiple_beyond (a ∷ acc) k (x ∷ xs) (suc j) d le = get_or-with_multiple_beyond acc k xs j d (omega arith)
 
-  -- the new numerator
-  abbrev new_top : List A
-  new_top = with_multiple ops (with_multiple ops top (ops.times e e) top_up) e bottom
+  -- ---- a multiple that is added to w items from index m on
 
-  new_top_at : (j : ℕ) → j < suc n
-      → get_or new_top j ops.zero ≡ ops.plus (ops.plus (get_or top j ops.zero) (ops.times (ops.times e e) (get_or top_up j ops.zero))) (ops.times e (get_or bottom j ops.zero))
-  new_top_at j lt =
-      get_or-with_multiple ops (with_multiple ops top (ops.times e e) top_up) e bottom j ops.zero (omega (arith, length-with_multiple ops top (ops.times e e) top_up)) (omega arith)
-      ∙ ap (λ z. ops.plus z (ops.times e (get_or bottom j ops.zero))) (get_or-with_multiple ops top (ops.times e e) top_up j ops.zero (omega arith) (omega arith))
+  module _ (acc xs part : List A) (k : A) (m w : ℕ) (d : A) (fits : m + w ≤ length acc) (size : length xs ≡ w) (is : part ≡ with_multiple ops (mid_of m w acc) k xs) where
+    mid_size : length (mid_of m w acc) ≡ w
+    mid_size = length-take-le w (drop m acc) (omega (arith, length-drop m acc))
 
-  pub more_top : (j : ℕ) → j < suc n → get_or new_top j ops.zero ≡ numerator ops 0 (e ∷ es) j
-  unfolding numerator
-  more_top zero lt =
-      new_top_at zero lt
-      ∙ ap (λ z. ops.plus (ops.plus (get_or top 0 ops.zero) (ops.times (ops.times e e) z)) (ops.times e (get_or bottom 0 ops.zero))) top_up_first
-      ∙ ap (λ z. ops.plus (ops.plus (get_or top 0 ops.zero) z) (ops.times e (get_or bottom 0 ops.zero))) (times_zero ops ring (ops.times e e))
-      ∙ ap (λ z. ops.plus z (ops.times e (get_or bottom 0 ops.zero))) (ring.plus_zero (get_or top 0 ops.zero) ∙ top_is 0 lt)
-      ∙ ap (λ z. ops.plus (numerator ops 0 es 0) (ops.times e z)) (bottom_is 0 lt)
-      ∙ ap (λ z. ops.plus (numerator ops 0 es 0) (ops.times z (denominator ops es 0))) (sym power_one)
-  more_top (suc j) lt =
-      new_top_at (suc j) lt
-      ∙ ap (λ z. ops.plus (ops.plus z (ops.times (ops.times e e) (get_or top_up (suc j) ops.zero))) (ops.times e (get_or bottom (suc j) ops.zero))) (top_is (suc j) lt)
-      ∙ ap (λ z. ops.plus (ops.plus (numerator ops 0 es (suc j)) (ops.times (ops.times e e) z)) (ops.times e (get_or bottom (suc j) ops.zero))) (top_up_later j (omega arith) ∙ top_is j (omega arith))
-      ∙ ap (λ z. ops.plus (ops.plus (numerator ops 0 es (suc j)) (ops.times (ops.times e e) (numerator ops 0 es j))) (ops.times e z)) (bottom_is (suc j) lt)
-      ∙ ap (λ z. ops.plus (ops.plus (numerator ops 0 es (suc j)) (ops.times (ops.times e e) (numerator ops 0 es j))) (ops.times z (denominator ops es (suc j)))) (sym power_one)
+    part_size : length part ≡ w
+    part_size = ap length is ∙ length-with_multiple (mid_of m w acc) k xs ∙ mid_size
 
-  -- the new denominator
-  pub more_bottom : (j : ℕ) → j < suc n → get_or (with_multiple ops bottom (ops.times e e) bottom_up) j ops.zero ≡ denominator ops (e ∷ es) j
-  unfolding denominator
-  more_bottom zero lt =
-      get_or-with_multiple ops bottom (ops.times e e) bottom_up 0 ops.zero (omega arith) (omega arith)
-      ∙ ap (λ z. ops.plus (get_or bottom 0 ops.zero) (ops.times (ops.times e e) z)) bottom_up_first
-      ∙ ap (ops.plus (get_or bottom 0 ops.zero)) (times_zero ops ring (ops.times e e))
-      ∙ ring.plus_zero (get_or bottom 0 ops.zero)
-      ∙ bottom_is 0 lt
-  more_bottom (suc j) lt =
-      get_or-with_multiple ops bottom (ops.times e e) bottom_up (suc j) ops.zero (omega arith) (omega arith)
-      ∙ ap (λ z. ops.plus z (ops.times (ops.times e e) (get_or bottom_up (suc j) ops.zero))) (bottom_is (suc j) lt)
-      ∙ ap (λ z. ops.plus (denominator ops es (suc j)) (ops.times (ops.times e e) z)) (bottom_up_later j (omega arith) ∙ bottom_is j (omega arith))
+    before_size : length (take m acc) ≡ m
+    before_size = length-take-le m acc (omega arith)
+
+    pub part_before : (j : ℕ) → j < m → get_or (put_mid m w acc part) j d ≡ get_or acc j d
+    part_before j lt = get_or-append (take m acc) _ d j (omega (arith, before_size)) ∙ get_or-take m acc j d lt
+
+    pub part_inside : (i : ℕ) → i < w → get_or (put_mid m w acc part) (m + i) d ≡ ops.plus (get_or acc (m + i) d) (ops.times k (get_or xs i d))
+    part_inside i lt =
+        let index : m + i - m ≡ i = omega arith in
+        get_or-append_right (take m acc) _ m (m + i) d before_size (omega arith)
+        ∙ ap (λ n. get_or (part ++ drop w (drop m acc)) n d) index
+        ∙ get_or-append part _ d i (omega (arith, part_size))
+        ∙ ap (λ l. get_or l i d) is
+        ∙ get_or-with_multiple (mid_of m w acc) k xs i d (omega (arith, mid_size)) (omega (arith, size))
+        ∙ ap (λ z. ops.plus z (ops.times k (get_or xs i d))) (get_or-take w (drop m acc) i d lt ∙ get_or-drop m acc i d)
+
+    pub part_after : (j : ℕ) → m + w ≤ j → get_or (put_mid m w acc part) j d ≡ get_or acc j d
+    part_after j le =
+        let index : j + 0 ≡ j = omega arith in
+        ap (λ n. get_or (put_mid m w acc part) n d) (sym index)
+        ∙ sym (get_or-drop j (put_mid m w acc part) 0 d)
+        ∙ ap (λ l. get_or l 0 d) (drop-put_mid m w acc part j le (omega arith) part_size)
+        ∙ get_or-drop j acc 0 d
+        ∙ ap (λ n. get_or acc n d) index
+
+    pub size_after : length (put_mid m w acc part) ≡ length acc
+    size_after =
+        length-append (take m acc) (part ++ drop w (drop m acc))
+        ∙ ap (λ n. length (take m acc) + n) (length-append part (drop w (drop m acc)))
+        ∙ (let rest : length (drop w (drop m acc)) ≡ length acc - m - w = length-drop w (drop m acc) ∙ ap (λ n. n - w) (length-drop m acc) in
+        let all : length (take m acc) + (length part + length (drop w (drop m acc))) ≡ length acc = omega (arith, before_size, part_size, rest, fits) in all)

@@ -1,37 +1,15 @@
 -- Steps of the functions that make fractions and their terms.
-use Rattle.std.proofs.Common.{◌≡◌, ◌≢◌, ℕ, zero, suc, ◌+◌, ◌-◌, ◌*◌, ◌<◌, ◌≤◌, List, [], ◌∷◌, length, get_or, set, take, drop, replicate, refl, sym, ◌∙◌, ap, ap₂, arith, below_more, get_or-set_same, get_or-set_other}
-use Rattle.std.proofs.lemmas.List.{get_or_default, get_or-replicate, drop_more}
+use Rattle.std.proofs.Common.{◌≡◌, ◌≢◌, ℕ, suc, ◌+◌, ◌-◌, ◌*◌, ◌<◌, ◌≤◌, List, [], ◌∷◌, length, get_or, set, take, drop, sym, ◌∙◌, ap, ap₂, arith, below_more, get_or-set_same, get_or-set_other}
+use Rattle.std.proofs.lemmas.List.{get_or_default, drop_more}
 use Rattle.field_rules.specs.Ops.{power}
 use Rattle.field_rules.specs.Elements.{product}
-use Rattle.field_rules.specs.Fields.{with_multiple}
 use Rattle.field_laws.proofs.Rings.{product-comm}
 use Rattle.sketch_rules.specs.PowerSums.{power_sum}
 use Rattle.fraction_laws.specs.Fractions.{denominator, numerator}
 use Rattle.fraction_laws.proofs.Fractions.{numerator-first, numerator-next, numerator-beyond}
 use Rattle.clmul_lanes.specs.declared.lane32.Lane32.{Lane32}
-use Rattle.clmul_lanes.specs.Lane32.{ops, ring, bits_of, zero_of, one_of, same_bits}
-use Rattle.clmul_lanes.specs.Fractions.{IsNumerator, IsFraction, IsLaterDenominator}
-use Rattle.clmul_lanes.proofs.Coefficients.{length-with_multiple, more_top, more_bottom}
-
--- ---- the fraction of no element
-
-zeros_are : (n : ℕ) (z : Lane32) → bits_of z ≡ 0 → (j : ℕ) → j < n → get_or (replicate n z) j zero_of ≡ zero_of
-zeros_are n z is j lt = get_or-replicate n j z zero_of lt ∙ same_bits z zero_of is
-
-pub no_fraction_is : (y z o : Lane32) → bits_of y ≡ 0 → bits_of z ≡ 0 → bits_of o ≡ 1 → IsFraction [] (replicate 33 y) (o ∷ replicate 32 z)
-unfolding numerator denominator
-no_fraction_is y z o y_is z_is o_is = record {
-  top_is = λ j lt. zeros_are 33 y y_is j lt;
-  bottom_is = at;
-  top_size = refl;
-  bottom_size = refl;
-}
-  where
-    at : (j : ℕ) → j < 33 → get_or (o ∷ replicate 32 z) j zero_of ≡ denominator ops [] j
-    at zero lt = same_bits o one_of o_is
-    at (suc j) lt = zeros_are 32 z z_is j (omega arith)
-
--- ---- one element more
+use Rattle.clmul_lanes.specs.Lane32.{ops, ring, bits_of, zero_of, same_bits}
+use Rattle.clmul_lanes.specs.Fractions.{IsNumerator, IsLaterDenominator}
 
 -- the elements from the back
 pub drop_back : (es : List Lane32) (e : Lane32) (n : ℕ) → n < length es → e ≡ get_or es (length es - 1 - n) e → e ∷ drop (length es - n) es ≡ drop (length es - (n + 1)) es
@@ -43,23 +21,6 @@ drop_back es e n lt is =
     ∙ drop_more es (length es - 1 - n) e (omega arith)
     ∙ ap (λ x. x ∷ drop (length es - 1 - n + 1) es) (sym is)
     ∙ ap (λ k. e ∷ drop k es) next)
-
-pub with_element_is : (es : List Lane32) (e square : Lane32) (top bottom top_up bottom_up once new_top new_bottom : List Lane32) → IsFraction es top bottom → square ≡ ops.times e e
-    → length top_up ≡ 33 → get_or top_up 0 zero_of ≡ zero_of → ((j : ℕ) → j < 32 → get_or top_up (suc j) zero_of ≡ get_or top j zero_of)
-    → length bottom_up ≡ 33 → get_or bottom_up 0 zero_of ≡ zero_of → ((j : ℕ) → j < 32 → get_or bottom_up (suc j) zero_of ≡ get_or bottom j zero_of)
-    → once ≡ with_multiple ops top square top_up → new_top ≡ with_multiple ops once e bottom → new_bottom ≡ with_multiple ops bottom square bottom_up → IsFraction (e ∷ es) new_top new_bottom
-with_element_is es e square top bottom top_up bottom_up once new_top new_bottom is squared top_size top_first top_later bottom_size bottom_first bottom_later once_is top_is bottom_is = record {
-  top_is = λ j lt. ap (λ l. get_or l j zero_of) both ∙ more_top ops ring e es top bottom top_up bottom_up 32 is.top_is is.bottom_is is.top_size is.bottom_size top_size bottom_size top_first top_later bottom_first bottom_later j lt;
-  bottom_is = λ j lt. ap (λ l. get_or l j zero_of) one ∙ more_bottom ops ring e es top bottom top_up bottom_up 32 is.top_is is.bottom_is is.top_size is.bottom_size top_size bottom_size top_first top_later bottom_first bottom_later j lt;
-  top_size = ap length both ∙ length-with_multiple ops (with_multiple ops top (ops.times e e) top_up) e bottom ∙ length-with_multiple ops top (ops.times e e) top_up ∙ is.top_size;
-  bottom_size = ap length one ∙ length-with_multiple ops bottom (ops.times e e) bottom_up ∙ is.bottom_size;
-}
-  where
-    both : new_top ≡ with_multiple ops (with_multiple ops top (ops.times e e) top_up) e bottom
-    both = top_is ∙ ap (λ l. with_multiple ops l e bottom) (once_is ∙ ap (λ q. with_multiple ops top q top_up) squared)
-
-    one : new_bottom ≡ with_multiple ops bottom (ops.times e e) bottom_up
-    one = bottom_is ∙ ap (λ q. with_multiple ops bottom q bottom_up) squared
 
 -- ---- the terms
 

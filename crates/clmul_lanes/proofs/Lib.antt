@@ -6,6 +6,7 @@ pub mod FractionSteps
 pub mod FourLanes
 pub mod LaneLists
 pub mod LaneProducts
+pub mod Locators
 pub mod Nibbles
 pub mod OddBlocks
 pub mod PlaneLists

@@ -1,11 +1,12 @@
 //! The sums of the odd powers of many elements, as the terms of fractions: 32 elements share one.
 
 ghost use Rattle.std.specs.Prelude.{◌≡◌, ℕ, suc, ◌+◌, ◌*◌, ◌<◌, ◌≤◌, List, [], ◌∷◌, length, slice_index, slice_index_or};
+ghost use Rattle.field_rules.specs.Fields.{with_multiple};
 ghost use Rattle.field_rules.specs.Lists.{sums_of_both};
 ghost use Rattle.sketch_rules.specs.PowerSums.{odd_power_sums};
-ghost use Rattle.clmul_lanes.specs.Lane32.{ops, bits_of, zero_of};
+ghost use Rattle.clmul_lanes.specs.Lane32.{ops, bits_of, zero_of, one_of};
 ghost use Rattle.clmul_lanes.specs.Rows.{AreRows};
-ghost use Rattle.clmul_lanes.specs.Fractions.{IsFraction, IsNumerator, IsTail, IsLaterDenominator};
+ghost use Rattle.clmul_lanes.specs.Fractions.{IsLocator, IsNumerator, IsLaterDenominator};
 
 use crate::Lane32;
 use crate::rows::{Row, fill_rows, product_at};
@@ -21,15 +22,11 @@ const FRACTIONS_PAY_FROM: usize = 16;
 /// From how many items on fractions are worth making.
 const LISTS_PAY_FROM: usize = 40;
 
-/// A list of coefficients, the constant one's first.
-type Coefficients = [Lane32; 33];
+/// The coefficients of a product of factors `1 + e z`, but for the constant one, which is 1.
+type Locator = [Lane32; 32];
 
-/// The sum of `e / (1 + e ^ 2 y)` over elements.
-#[derive(Drop)]
-struct Fraction {
-    numerator: Coefficients,
-    denominator: Coefficients,
-}
+/// The coefficients of a numerator, the constant one's first.
+type Numerator = [Lane32; 33];
 
 /// Adds to the item at each index i the sum of the `(2i + 1)`-th powers of the elements.
 pub fn add_power_sums(acc: &mut [Lane32], elements: &[Lane32])
@@ -59,82 +56,96 @@ fn add_by_fractions(acc: &mut [Lane32], elements: &[Lane32])
     }
 }
 
-/// The terms of one fraction. The rows may hold anything before.
+/// The terms of the fraction of up to 32 elements. The rows may hold anything before.
 fn add_fraction(acc: &mut [Lane32], elements: &[Lane32], rows: &mut [Row; 128])
     requires { length elements.now ≤ 32 }
     ensures { acc.new ≡ sums_of_both ops acc.old (odd_power_sums ops elements.now 0 (length acc.old)) }
 {
-    let fraction = fraction_of(elements);
-    fill_rows(rows, &tail(&fraction.denominator));
-    add_terms(acc, &fraction.numerator, rows)
+    let locator = locator_of(elements);
+    fill_rows(rows, &squares_of(&locator));
+    add_terms(acc, &product_of_halves(&locator), rows)
 }
 
-/// The fraction of the elements.
-fn fraction_of(elements: &[Lane32]) -> Fraction
+/// The product of the factors `1 + e z` of the elements.
+fn locator_of(elements: &[Lane32]) -> Locator
     requires { length elements.now ≤ 32 }
-    ensures { IsFraction elements.now result.numerator result.denominator }
+    ensures { IsLocator elements.now result }
 {
-    let mut fraction = no_fraction();
+    let mut locator = [Lane32::ZERO; 32];
     for n in 0..elements.len() {
-        fraction = with_element(&fraction, elements[elements.len() - 1 - n]);
+        let up = moved_up(&locator);
+        let parts = &up[..];
+        add_multiple(
+            &mut locator,
+            elements[elements.len() - 1 - n],
+            &parts[..n + 1],
+        );
     }
-    fraction
+    locator
 }
 
-/// The fraction of no element: 0 / 1.
-fn no_fraction() -> Fraction
-    ensures { IsFraction [] result.numerator result.denominator }
+/// Adds a multiple of a list to as many items as it has.
+fn add_multiple(acc: &mut [Lane32], k: Lane32, x: &[Lane32])
+    requires { length x.now ≤ length acc.old }
+    ensures { acc.new ≡ with_multiple ops acc.old k x.now }
 {
-    let mut denominator = [Lane32::ZERO; 33];
-    denominator[0] = Lane32::ONE;
-    Fraction {
-        numerator: [Lane32::ZERO; 33],
-        denominator,
-    }
+    Lane32::axpy(&mut acc[..x.len()], k, x);
 }
 
-/// The fraction with an element more.
-fn with_element(fraction: &Fraction, e: Lane32) -> Fraction
-    ensures { (es : List Lane32) → IsFraction es fraction.now.numerator fraction.now.denominator → IsFraction (e ∷ es) result.numerator result.denominator }
+/// Each coefficient, from the constant one on, one place further up, where the last one is left out.
+fn moved_up(locator: &Locator) -> Locator
+    ensures first { slice_index_or result 0 zero_of ≡ one_of }
+    ensures later { (j : ℕ) → j < 31 → slice_index_or result (suc j) zero_of ≡ slice_index_or locator.now j zero_of }
+    ensures size { length result ≡ 32 }
 {
-    let square = e.square();
-    let mut numerator = fraction.numerator;
-    Lane32::axpy(&mut numerator, square, &moved_up(&fraction.numerator));
-    Lane32::axpy(&mut numerator, e, &fraction.denominator);
-    let mut denominator = fraction.denominator;
-    Lane32::axpy(&mut denominator, square, &moved_up(&fraction.denominator));
-    Fraction {
-        numerator,
-        denominator,
-    }
-}
-
-/// Each coefficient but the last, one place further up.
-fn moved_up(list: &Coefficients) -> Coefficients
-    ensures first { slice_index_or result 0 zero_of ≡ zero_of }
-    ensures later { (j : ℕ) → j < 32 → slice_index_or result (suc j) zero_of ≡ slice_index_or list.now j zero_of }
-    ensures size { length result ≡ 33 }
-{
-    let mut moved = [Lane32::ZERO; 33];
-    for j in 0..32 {
-        moved[j + 1] = list[j];
+    let mut moved = [Lane32::ONE; 32];
+    for j in 0..31 {
+        moved[j + 1] = locator[j];
     }
     moved
 }
 
-/// The bits of the coefficients from the second on.
-fn tail(list: &Coefficients) -> Row
-    ensures { IsTail list.now result }
+/// The bits of the squares of the coefficients, which are the denominator's from the second one on.
+fn squares_of(locator: &Locator) -> Row
+    ensures { (es : List Lane32) → IsLocator es locator.now → IsLaterDenominator es result }
 {
-    let mut rest = [0; 32];
+    let mut squares = [0; 32];
     for j in 0..32 {
-        rest[j] = list[j + 1].get();
+        squares[j] = locator[j].square().get();
     }
-    rest
+    squares
+}
+
+/// The product of the polynomials of the coefficients at even and at odd places, which is the numerator.
+fn product_of_halves(locator: &Locator) -> Numerator
+    ensures { (es : List Lane32) → length es ≤ 32 → IsLocator es locator.now → IsNumerator 0 es result }
+{
+    let odd = odd_half(locator);
+    let mut product = [Lane32::ZERO; 33];
+    for i in 0..16 {
+        product[i] = odd[i];
+    }
+    for i in 0..16 {
+        let list = &mut product[..];
+        Lane32::axpy(&mut list[i + 1..i + 17], locator[2 * i + 1], &odd);
+    }
+    product
+}
+
+/// The coefficients at odd places.
+fn odd_half(locator: &Locator) -> [Lane32; 16]
+    ensures each { (i : ℕ) → i < 16 → slice_index_or result i zero_of ≡ slice_index_or locator.now (2 * i) zero_of }
+    ensures size { length result ≡ 16 }
+{
+    let mut odd = [Lane32::ZERO; 16];
+    for i in 0..16 {
+        odd[i] = locator[2 * i];
+    }
+    odd
 }
 
 /// Adds the terms of a fraction, where the rows are those of its denominator from the second coefficient on.
-fn add_terms(acc: &mut [Lane32], first: &Coefficients, rows: &[Row; 128])
+fn add_terms(acc: &mut [Lane32], first: &Numerator, rows: &[Row; 128])
     ensures { (es : List Lane32) (list : List ℕ) → length es ≤ 32 → IsNumerator 0 es first.now → IsLaterDenominator es list → AreRows list rows.now
         → acc.new ≡ sums_of_both ops acc.old (odd_power_sums ops es 0 (length acc.old)) }
 {
@@ -147,7 +158,7 @@ fn add_terms(acc: &mut [Lane32], first: &Coefficients, rows: &[Row; 128])
 
 /// The numerator of what is left of a fraction when its first term is taken away and the rest is divided by y.
 #[inline(always)]
-fn next_numerator(numerator: &Coefficients, rows: &[Row; 128]) -> Coefficients
+fn next_numerator(numerator: &Numerator, rows: &[Row; 128]) -> Numerator
     ensures later { (list : List ℕ) → AreRows list rows.now → (j : ℕ) → j < 32 → (d : Lane32) → bits_of d ≡ slice_index list j
         → slice_index_or result j zero_of ≡ ops.plus (slice_index_or numerator.now (suc j) zero_of) (ops.times (slice_index_or numerator.now 0 zero_of) d) }
     ensures last { slice_index_or result 32 zero_of ≡ zero_of }

@@ -8,6 +8,11 @@ use Rattle.fraction_laws.specs.Locators.{locator, even_half, odd_half, series_pr
 use Rattle.fraction_laws.proofs.SeriesProducts.{raised, product-same, product-zero_left, product-comm, product-left, product-right, product-square, product-raised_left, product-raised_right}
 
 module _ {A : Type 0} (ops : Ops A) (ring : IsRing ops) where
+  pub locator-first : (es : List A) → locator ops es 0 ≡ ops.one
+  unfolding locator
+  locator-first [] = refl
+  locator-first (e ∷ es) = locator-first es
+
   -- ---- the denominator, coefficient by coefficient
 
   pub denominator-square : (es : List A) (j : ℕ) → denominator ops es j ≡ ops.times (locator ops es j) (locator ops es j)

@@ -1,7 +1,8 @@
 -- Laws of the product of series.
-use Rattle.std.proofs.Common.{◌≡◌, ℕ, zero, suc, refl, sym, ap, ap₂, ◌∙◌}
+use Rattle.std.proofs.Common.{◌≡◌, ◌≢◌, ◌⊎◌, inl, inr, ℕ, zero, suc, ◌+◌, ◌<◌, ◌≤◌, refl, sym, ap, ap₂, ◌∙◌, arith}
+use Rattle.std.proofs.lemmas.Bool.{cases_eq}
 use Rattle.field_rules.specs.Ops.{Ops, IsRing}
-use Rattle.field_laws.proofs.RingFacts.{zero_plus, zero_times, distributes_left, plus_swap, plus_again}
+use Rattle.field_laws.proofs.RingFacts.{zero_plus, times_zero, zero_times, distributes_left, plus_swap, plus_again}
 use Rattle.fraction_laws.specs.Locators.{series_product}
 
 module _ {A : Type 0} (ops : Ops A) where
@@ -9,6 +10,30 @@ module _ {A : Type 0} (ops : Ops A) where
   unfoldable pub raised : (ℕ → A) → ℕ → A
   raised f zero = ops.zero
   raised f (suc j) = f j
+
+  -- the series times y ^ n
+  unfoldable pub raised_by : ℕ → (ℕ → A) → ℕ → A
+  raised_by zero f j = f j
+  raised_by (suc n) f j = raised_by n (raised f) j
+
+  pub raised_by-from : (n : ℕ) (f : ℕ → A) (j : ℕ) → raised_by n f (n + j) ≡ f j
+  unfolding raised_by raised
+  raised_by-from zero f j = let index : 0 + j ≡ j = omega arith in ap f index
+  raised_by-from (suc n) f j = let index : suc n + j ≡ n + suc j = omega arith in ap (raised_by n (raised f)) index ∙ raised_by-from n (raised f) (suc j)
+
+  pub raised_by-below : (n : ℕ) (f : ℕ → A) (j : ℕ) → j < n → raised_by n f j ≡ ops.zero
+  unfolding raised_by raised
+  raised_by-below zero f j lt = absurd (omega arith)
+  raised_by-below (suc n) f j lt = by (λ below. raised_by-below n (raised f) j below) (cases_eq j n)
+    where
+      by : (j < n → raised_by n (raised f) j ≡ ops.zero) → (j ≡ n) ⊎ (j ≡ n → ⊥) → raised_by n (raised f) j ≡ ops.zero
+      by before (inl same) = let index : j ≡ n + 0 = omega (arith, same) in ap (raised_by n (raised f)) index ∙ raised_by-from n (raised f) 0
+      by before (inr other) = let apart : j ≢ n = other in before (omega (arith, apart))
+
+  -- the first n rows of the product: f_0 g + f_1 y g + ..
+  unfoldable pub first_rows : ℕ → (ℕ → A) → (ℕ → A) → ℕ → A
+  first_rows zero f g j = ops.zero
+  first_rows (suc n) f g j = ops.plus (first_rows n f g j) (ops.times (f n) (raised_by n g j))
 
   -- only coefficients count
   pub product-same : (f g h k : ℕ → A) (j : ℕ) → ((i : ℕ) → f i ≡ h i) → ((i : ℕ) → g i ≡ k i) → series_product ops f g j ≡ series_product ops h k j
@@ -97,3 +122,26 @@ module _ {A : Type 0} (ops : Ops A) (ring : IsRing ops) where
   unfolding raised
   product-raised_right f g zero = product-comm f (raised ops g) zero ∙ product-raised_left g f zero
   product-raised_right f g (suc j) = product-comm f (raised ops g) (suc j) ∙ product-raised_left g f (suc j) ∙ product-comm g f j
+
+  -- ---- row by row
+
+  rows-first : (n : ℕ) (f g : ℕ → A) (j : ℕ) → first_rows ops (suc n) f g j ≡ ops.plus (ops.times (f 0) (g j)) (first_rows ops n (λ i. f (suc i)) (raised ops g) j)
+  unfolding first_rows raised_by
+  rows-first zero f g j = ring.plus_comm ops.zero (ops.times (f 0) (g j))
+  rows-first (suc n) f g j =
+      ap (λ z. ops.plus z (ops.times (f (suc n)) (raised_by ops n (raised ops g) j))) (rows-first n f g j)
+      ∙ ring.plus_assoc (ops.times (f 0) (g j)) (first_rows ops n (λ i. f (suc i)) (raised ops g) j) (ops.times (f (suc n)) (raised_by ops n (raised ops g) j))
+
+  product-first : (f g : ℕ → A) (j : ℕ) → series_product ops f g j ≡ ops.plus (ops.times (f 0) (g j)) (series_product ops (λ i. f (suc i)) (raised ops g) j)
+  unfolding series_product raised
+  product-first f g zero = sym (ap (ops.plus (ops.times (f 0) (g 0))) (times_zero ops ring (f 1)) ∙ ring.plus_zero (ops.times (f 0) (g 0)))
+  product-first f g (suc j) = ap (ops.plus (ops.times (f 0) (g (suc j)))) (sym (product-raised_right (λ i. f (suc i)) g (suc j)))
+
+  -- where f has no coefficient from n on, these are all rows
+  pub product-rows : (n : ℕ) (f g : ℕ → A) (j : ℕ) → ((i : ℕ) → n ≤ i → f i ≡ ops.zero) → series_product ops f g j ≡ first_rows ops n f g j
+  unfolding first_rows
+  product-rows zero f g j none = product-zero_left f g j (λ i. none i (omega arith))
+  product-rows (suc n) f g j none =
+      product-first f g j
+      ∙ ap (ops.plus (ops.times (f 0) (g j))) (product-rows n (λ i. f (suc i)) (raised ops g) j (λ i le. none (suc i) (omega arith)))
+      ∙ sym (rows-first n f g j)
