@@ -124,17 +124,19 @@ module _ (a two four eight : ℕ) (fits : a < 2 ^ 32) (by_two : two ≡ product 
 index_fits : (i : ℕ) → i < 8 → 2 ^ (4 * i) < 2 ^ 32
 index_fits i index = subst (λ z. z < 2 ^ 32) (one-mul (2 ^ (4 * i))) (nibble_fits i 1 index (lit< tt))
 
--- the multiples of the factor's shift are the factor's multiples by the nibble
-pub table_is : (factor shifted i : ℕ) (table : List ℕ) → factor < 2 ^ 32 → i < 8 → shifted ≡ product 32 factor (2 ^ (4 * i)) → ((j : ℕ) → j < 16 → slice_index table j ≡ product 32 shifted j)
-    → IsTable factor i table
-table_is factor shifted i table fits index shifted_is are j below =
-    are j below
-    ∙ ap (λ z. product 32 z j) shifted_is
+-- a multiple of the factor's shift is the factor's multiple by the nibble
+pub shifted_product : (factor shifted i j : ℕ) → factor < 2 ^ 32 → i < 8 → j < 16 → shifted ≡ product 32 factor (2 ^ (4 * i)) → product 32 shifted j ≡ product 32 factor (j * 2 ^ (4 * i))
+shifted_product factor shifted i j fits index below shifted_is =
+    ap (λ z. product 32 z j) shifted_is
     ∙ product-assoc 32 factor (2 ^ (4 * i)) j (lit< tt) fits (index_fits i index) below_j
     ∙ ap (product 32 factor) (product-shift 32 (4 * i) j (lit< tt) (index_fits i index) below_j (nibble_fits i j index below))
   where
     below_j : j < 2 ^ 32
     below_j = omega arith
+
+pub table_is : (factor shifted i : ℕ) (table : List ℕ) → factor < 2 ^ 32 → i < 8 → shifted ≡ product 32 factor (2 ^ (4 * i)) → ((j : ℕ) → j < 16 → slice_index table j ≡ product 32 shifted j)
+    → IsTable factor i table
+table_is factor shifted i table fits index shifted_is are j below = are j below ∙ shifted_product factor shifted i j fits index below shifted_is
 
 -- one table more is done
 pub tables_more : (factor i : ℕ) (tables : List (List ℕ)) (table : List ℕ) → i < length tables → ((k : ℕ) → k < i → IsTable factor k (slice_index_or tables k [])) → IsTable factor i table

@@ -9,7 +9,7 @@ ghost use Rattle.clmul_lanes.specs.Rows.{AreRows};
 ghost use Rattle.clmul_lanes.specs.Fractions.{IsLocator, IsNumerator, IsLaterDenominator};
 
 use crate::Lane32;
-use crate::rows::{Row, fill_rows, product_at};
+use crate::rows::{Row, Rows, fill_rows, product_at};
 use crate::small_sums::{add_each, add_four_at_a_time};
 use field_core::Field;
 
@@ -43,7 +43,7 @@ pub fn add_power_sums(acc: &mut [Lane32], elements: &[Lane32])
 fn add_by_fractions(acc: &mut [Lane32], elements: &[Lane32])
     ensures { acc.new ≡ sums_of_both ops acc.old (odd_power_sums ops elements.now 0 (length acc.old)) }
 {
-    let mut rows = [[0; 32]; 128];
+    let mut rows = [0; 4096];
     let blocks = elements.len() / SHARED;
     for n in 0..blocks {
         add_fraction(acc, &elements[SHARED * n..SHARED * n + SHARED], &mut rows);
@@ -57,7 +57,7 @@ fn add_by_fractions(acc: &mut [Lane32], elements: &[Lane32])
 }
 
 /// The terms of the fraction of up to 32 elements. The rows may hold anything before.
-fn add_fraction(acc: &mut [Lane32], elements: &[Lane32], rows: &mut [Row; 128])
+fn add_fraction(acc: &mut [Lane32], elements: &[Lane32], rows: &mut Rows)
     requires { length elements.now ≤ 32 }
     ensures { acc.new ≡ sums_of_both ops acc.old (odd_power_sums ops elements.now 0 (length acc.old)) }
 {
@@ -145,7 +145,7 @@ fn odd_half(locator: &Locator) -> [Lane32; 16]
 }
 
 /// Adds the terms of a fraction, where the rows are those of its denominator from the second coefficient on.
-fn add_terms(acc: &mut [Lane32], first: &Numerator, rows: &[Row; 128])
+fn add_terms(acc: &mut [Lane32], first: &Numerator, rows: &Rows)
     ensures { (es : List Lane32) (list : List ℕ) → length es ≤ 32 → IsNumerator 0 es first.now → IsLaterDenominator es list → AreRows list rows.now
         → acc.new ≡ sums_of_both ops acc.old (odd_power_sums ops es 0 (length acc.old)) }
 {
@@ -158,7 +158,7 @@ fn add_terms(acc: &mut [Lane32], first: &Numerator, rows: &[Row; 128])
 
 /// The numerator of what is left of a fraction when its first term is taken away and the rest is divided by y.
 #[inline(always)]
-fn next_numerator(numerator: &Numerator, rows: &[Row; 128]) -> Numerator
+fn next_numerator(numerator: &Numerator, rows: &Rows) -> Numerator
     ensures later { (list : List ℕ) → AreRows list rows.now → (j : ℕ) → j < 32 → (d : Lane32) → bits_of d ≡ slice_index list j
         → slice_index_or result j zero_of ≡ ops.plus (slice_index_or numerator.now (suc j) zero_of) (ops.times (slice_index_or numerator.now 0 zero_of) d) }
     ensures last { slice_index_or result 32 zero_of ≡ zero_of }

@@ -1,69 +1,61 @@
 //! The multiples of a fixed list of 32 elements: rows by which its product with any element takes eight loads an item.
 
-ghost use Rattle.std.specs.Prelude.{◌≡◌, ℕ, ◌+◌, ◌*◌, ◌/◌, ◌%◌, ◌<◌, ◌^◌, List, [], slice_index, slice_index_or, bit_xor};
+ghost use Rattle.std.specs.Prelude.{◌≡◌, ◌≢◌, ℕ, ◌+◌, ◌*◌, ◌/◌, ◌%◌, ◌<◌, ◌^◌, List, length, slice_index};
 ghost use Rattle.field_rules.specs.Elements.{product};
-ghost use Rattle.clmul_lanes.specs.Rows.{IsMultiple, AreMultiplesBelow, AreRows};
+ghost use Rattle.clmul_lanes.specs.Rows.{AreRows};
 
-use crate::multiples::doubled;
+use crate::multiples::{doubled, nibble_multiples};
 
 /// The bits of 32 elements.
 pub(crate) type Row = [u32; 32];
 
-/// Makes the multiples of `list`: row `16 i + v` has those by the value v of nibble i of an element.
-pub(crate) fn fill_rows(rows: &mut [Row; 128], list: &Row)
+/// The multiples of 32 elements, in 128 rows: row `16 i + v`, which begins at index `32 (16 i + v)`, has those by the
+/// value v of nibble i of an element.
+pub(crate) type Rows = [u32; 4096];
+
+/// Makes the multiples of `list`.
+pub(crate) fn fill_rows(rows: &mut Rows, list: &Row)
     ensures { AreRows list.now rows.new }
 {
-    for r in 0..128 {
-        let row = next_row(rows, list, r);
-        rows[r] = row;
+    let mut firsts = *list;
+    for i in 0..8 {
+        firsts = fill_place(rows, &firsts, i);
     }
 }
 
-/// The row at index r, by those before it. An even value's row is twice that of its half, and an odd value's is the sum
-/// of the one before it and of the first.
-fn next_row(rows: &[Row; 128], list: &Row, r: usize) -> Row
-    requires { r < 128 }
-    ensures { AreMultiplesBelow r list.now rows.now → IsMultiple list.now (r % 16 * 2 ^ (4 * (r / 16))) result }
+/// Makes the 16 rows of nibble i from the first of them that isn't zero, and gives that of the next nibble.
+fn fill_place(rows: &mut Rows, firsts: &Row, i: usize) -> Row
+    requires { i < 8 }
+    ensures size { length result ≡ 32 }
+    ensures kept { (r j : ℕ) → r < 16 * i → j < 32 → slice_index rows.new (32 * r + j) ≡ slice_index rows.old (32 * r + j) }
+    ensures made { (v j : ℕ) → v < 16 → j < 32 → slice_index rows.new (32 * (16 * i + v) + j) ≡ product 32 (slice_index firsts.now j) v }
+    ensures next { (j : ℕ) → j < 32 → slice_index result j ≡ product 32 (product 32 (slice_index firsts.now j) 8) 2 }
 {
-    let value = r % 16;
-    if value == 0 {
-        [0; 32]
-    } else if r == 1 {
-        *list
-    } else if value == 1 {
-        doubled_row(&rows[r - 9])
-    } else if value % 2 == 0 {
-        doubled_row(&rows[r - value / 2])
-    } else {
-        sum_of_rows(&rows[r - 1], &rows[r - value + 1])
-    }
-}
-
-/// The product of each item and x.
-fn doubled_row(row: &Row) -> Row
-    ensures { (j : ℕ) → j < 32 → slice_index result j ≡ product 32 (slice_index row.now j) 2 }
-{
-    let mut doubles = [0; 32];
+    let mut next = [0; 32];
     for j in 0..32 {
-        doubles[j] = doubled(row[j]);
+        let multiples = nibble_multiples(firsts[j]);
+        set_column(rows, i, j, &multiples);
+        next[j] = doubled(multiples[8]);
     }
-    doubles
+    next
 }
 
-/// The sums of the elements at each index.
-fn sum_of_rows(a: &Row, b: &Row) -> Row
-    ensures { (j : ℕ) → j < 32 → slice_index result j ≡ bit_xor (slice_index a.now j) (slice_index b.now j) }
+/// Puts sixteen words into the rows of nibble i, at index j of each.
+#[inline(always)]
+fn set_column(rows: &mut Rows, i: usize, j: usize, words: &[u32; 16])
+    requires { (i < 8) × (j < 32) }
+    ensures kept { (r m : ℕ) → r < 16 * i → m < 32 → slice_index rows.new (32 * r + m) ≡ slice_index rows.old (32 * r + m) }
+    ensures others { (r m : ℕ) → m < 32 → m ≢ j → slice_index rows.new (32 * r + m) ≡ slice_index rows.old (32 * r + m) }
+    ensures made { (v : ℕ) → v < 16 → slice_index rows.new (32 * (16 * i + v) + j) ≡ slice_index words.now v }
 {
-    let mut sums = [0; 32];
-    for j in 0..32 {
-        sums[j] = a[j] ^ b[j];
+    for v in 0..16 {
+        rows[32 * (16 * i + v) + j] = words[v];
     }
-    sums
 }
 
 /// The bits of the product of `k` and the item at index j of the list. Inlined, all indices share the nibbles of `k`.
 #[inline(always)]
-pub(crate) fn product_at(rows: &[Row; 128], k: u32, j: usize) -> u32
+pub(crate) fn product_at(rows: &Rows, k: u32, j: usize) -> u32
     requires { j < 32 }
     ensures { (list : List ℕ) → AreRows list rows.now → slice_index list j < 2 ^ 32 → result ≡ product 32 (slice_index list j) k }
 {
@@ -76,11 +68,11 @@ pub(crate) fn product_at(rows: &[Row; 128], k: u32, j: usize) -> u32
 
 /// The item at index j of the row at index r.
 #[inline(always)]
-fn word_at(rows: &[Row; 128], r: usize, j: usize) -> u32
+fn word_at(rows: &Rows, r: usize, j: usize) -> u32
     requires { (r < 128) × (j < 32) }
-    ensures { result ≡ slice_index (slice_index_or rows.now r []) j }
+    ensures { result ≡ slice_index rows.now (32 * r + j) }
 {
-    rows[r][j]
+    rows[32 * r + j]
 }
 
 /// Nibble i of `a`, where 0 is the lowest.
