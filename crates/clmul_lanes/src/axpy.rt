@@ -32,7 +32,18 @@ pub fn axpy_by_lanes(acc: &mut [Lane32], k: Lane32, x: &[Lane32])
         let (from, to) = (16 * n, 16 * n + 16);
         add_block(&mut acc[from..to], &tables, &x[from..to]);
     }
-    add_block(&mut acc[16 * blocks..], &tables, &x[16 * blocks..]);
+    add_rest(&mut acc[16 * blocks..], &tables, &x[16 * blocks..]);
+}
+
+/// Adds the multiples of the items behind the last block, of which there may be none.
+#[inline(always)]
+fn add_rest(acc: &mut [Lane32], tables: &ByteTables, x: &[Lane32])
+    requires { (length acc.old ≡ length x.now) × (length x.now ≤ 16) }
+    ensures { (k : Lane32) → AreByteTables (bits_of k) tables.now → acc.new ≡ with_multiple ops acc.old k x.now }
+{
+    if !x.is_empty() {
+        add_block(acc, tables, x)
+    }
 }
 
 /// Adds the multiples of up to sixteen items.

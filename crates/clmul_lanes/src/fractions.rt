@@ -20,7 +20,7 @@ const SHARED: usize = 32;
 const FRACTIONS_PAY_FROM: usize = 16;
 
 /// From how many items on fractions are worth making.
-const LISTS_PAY_FROM: usize = 40;
+const LISTS_PAY_FROM: usize = 24;
 
 /// The coefficients of a product of factors `1 + e z`, but for the constant one, which is 1.
 type Locator = [Lane32; 32];

@@ -1,2 +1,3 @@
 pub mod Gf32
 pub mod LinearMaps
+pub mod Windows

@@ -1,30 +1,41 @@
 //! Products of polynomials over GF(2), and their remainders by `x ^ 32 + x ^ 7 + x ^ 3 + x ^ 2 + 1`.
 
-ghost use Rattle.std.specs.Prelude.{◌≡◌, ℕ, ◌<◌, ◌^◌, ◌/◌, ◌%◌, slice_index, bit_xor};
+ghost use Rattle.std.specs.Prelude.{◌≡◌, ℕ, ◌<◌, ◌^◌, ◌/◌, ◌%◌, bit_xor};
 ghost use Rattle.field_rules.specs.Elements.{IsProduct, remainder};
 ghost use Rattle.field_rules.specs.Elements.{carryless_product as carryless_product_of, product as product_of};
+ghost use Rattle.field_core.specs.Windows.{IsWindowTable};
 
 use crate::nibble_tables::nibble_sums;
 
-/// The multiples of `a` by the 16 polynomials of 4 bits.
-fn multiples(a: u32) -> [u64; 16]
-    ensures { (k : ℕ) → k < 16 → slice_index result k ≡ carryless_product_of 4 a k }
+/// The multiples of a polynomial by the 16 polynomials of 4 bits.
+pub type WindowTable = [u64; 16];
+
+/// The multiples of `a`.
+pub fn window_table(a: u32) -> WindowTable
+    ensures { IsWindowTable a result }
 {
     let one = a as u64;
     nibble_sums!(one, one * 2, one * 4, one * 8)
 }
 
-/// The product of two polynomials, by windows of 4 bits from the top.
-pub fn carryless_product(a: u32, b: u32) -> u64
-    ensures { result ≡ carryless_product_of 32 a b }
+/// The product of the polynomial of a table and `b`, by windows of 4 bits from the top.
+#[inline(always)]
+pub fn product_by_windows(table: &WindowTable, b: u32) -> u64
+    ensures { (a : ℕ) → a < 2 ^ 32 → IsWindowTable a table.now → result ≡ carryless_product_of 32 a b }
 {
-    let table = multiples(a);
     let mut sum: u64 = 0;
     for i in 0..8u32 {
         let window = (b >> (28 - 4 * i)) & 15;
         sum = (sum << 4) ^ table[window as usize];
     }
     sum
+}
+
+/// The product of two polynomials.
+pub fn carryless_product(a: u32, b: u32) -> u64
+    ensures { result ≡ carryless_product_of 32 a b }
+{
+    product_by_windows(&window_table(a), b)
 }
 
 /// What may stand for `p` where only its remainder by the modulus counts: its terms from `x ^ 32` on are replaced by

@@ -10,7 +10,9 @@ mod roots;
 #[cfg(test)]
 mod tests;
 
-pub use carryless::{carryless_product, product, reduce};
+pub use carryless::{
+    WindowTable, carryless_product, product, product_by_windows, reduce, window_table,
+};
 pub use field::Field;
 pub use gf32::Gf32;
 pub use linear_maps::{NibbleTables, image, nibble};

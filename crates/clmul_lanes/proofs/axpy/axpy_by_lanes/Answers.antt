@@ -16,6 +16,6 @@ loop-n-preserved c =
 pub returns : goal.returns
 returns c =
     let past : length c.args.x.now / 16 ≡ c.loop-n.n = omega arith in
-    rest_added ops c.args.k _ _ _ c.loop-n.acc c.args.x.now c.add_block-2.new.acc (omega arith) (omega arith) (c.add_block-2.ensures c.args.k (subst (λ z. AreByteTables z c.byte_tables-tables.result) c.get.ensures c.byte_tables-tables.ensures))
+    rest_added ops c.args.k _ _ _ c.loop-n.acc c.args.x.now c.add_rest.new.acc (omega arith) (omega arith) (c.add_rest.ensures c.args.k (subst (λ z. AreByteTables z c.byte_tables-tables.result) c.get.ensures c.byte_tables-tables.ensures))
     ∙ ap (λ n. take (16 * n) c.loop-n.acc ++ with_multiple ops (drop (16 * n) c.loop-n.acc) c.args.k (drop (16 * n) c.args.x.now)) past
     ∙ c.loop-n.invariant

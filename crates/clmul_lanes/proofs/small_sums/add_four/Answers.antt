@@ -16,10 +16,10 @@ loop-a-init c = record {
 
 pub loop-a-preserved : goal.loop-a-preserved
 loop-a-preserved c = let inside : c.loop-a.a-index < length c.loop-a.acc = omega arith in record {
-  d_is = c.mul-d_power.ensures.times ∙ odd_power_next ops ring c.args.d c.loop-a.d_power c.mul-d_square.result c.loop-a.a-index c.loop-a.invariant.d_is c.mul-d_square.ensures.times;
-  e_is = c.mul-e_power.ensures.times ∙ odd_power_next ops ring c.args.e c.loop-a.e_power c.mul-e_square.result c.loop-a.a-index c.loop-a.invariant.e_is c.mul-e_square.ensures.times;
-  f_is = c.mul-f_power.ensures.times ∙ odd_power_next ops ring c.args.f c.loop-a.f_power c.mul-f_square.result c.loop-a.a-index c.loop-a.invariant.f_is c.mul-f_square.ensures.times;
-  g_is = c.mul-g_power.ensures.times ∙ odd_power_next ops ring c.args.g c.loop-a.g_power c.mul-g_square.result c.loop-a.a-index c.loop-a.invariant.g_is c.mul-g_square.ensures.times;
+  d_is = c.times-d_power.ensures c.square.result c.get.result c.get.ensures c.window_table-d_square.ensures ∙ odd_power_next ops ring c.args.d c.loop-a.d_power c.square.result c.loop-a.a-index c.loop-a.invariant.d_is c.square.ensures;
+  e_is = c.times-e_power.ensures c.square-2.result c.get-2.result c.get-2.ensures c.window_table-e_square.ensures ∙ odd_power_next ops ring c.args.e c.loop-a.e_power c.square-2.result c.loop-a.a-index c.loop-a.invariant.e_is c.square-2.ensures;
+  f_is = c.times-f_power.ensures c.square-3.result c.get-3.result c.get-3.ensures c.window_table-f_square.ensures ∙ odd_power_next ops ring c.args.f c.loop-a.f_power c.square-3.result c.loop-a.a-index c.loop-a.invariant.f_is c.square-3.ensures;
+  g_is = c.times-g_power.ensures c.square-4.result c.get-4.result c.get-4.ensures c.window_table-g_square.ensures ∙ odd_power_next ops ring c.args.g c.loop-a.g_power c.square-4.result c.loop-a.a-index c.loop-a.invariant.g_is c.square-4.ensures;
   added = one_added ops (c.args.d ∷ c.args.e ∷ c.args.f ∷ c.args.g ∷ []) c.loop-a.a-index c.args.acc.now c.loop-a.acc c.add-in-loop-a-3.result inside
       (four_added c.args.d c.args.e c.args.f c.args.g c.loop-a.d_power c.loop-a.e_power c.loop-a.f_power c.loop-a.g_power c.add-in-loop-a-3.result c.loop-a.a-index c.loop-a.acc c.a-item.result inside
       c.loop-a.invariant.d_is c.loop-a.invariant.e_is c.loop-a.invariant.f_is c.loop-a.invariant.g_is

@@ -1,12 +1,5 @@
-use Rattle.std.proofs.Common.{rules, ◌-◌, ◌*◌, ◌/◌, ◌%◌, ◌^◌, ◌<◌, bit_and, bit_xor, sym, ◌∙◌, ap, arith}
-use Rattle.field_laws.proofs.Carryless.{carryless_product-zero}
-use Rattle.field_core.proofs.Windows.{window-below, window-next}
+use Rattle.std.proofs.Common.{rules, ◌^◌, ◌<◌}
 use Rattle.field_core.proofs.carryless.carryless_product.Goals as goal
 
-pub loop-i-init : goal.loop-i-init
-loop-i-init c = sym (carryless_product-zero c.args.a (c.args.b / 2 ^ 32))
-
-pub loop-i-preserved : goal.loop-i-preserved
-loop-i-preserved c = let fits : c.args.a < 2 ^ 32 = search rules in
-    ap (bit_xor (c.loop-i.sum * 16 % 2 ^ 64)) (c.multiples-table.ensures (bit_and (c.args.b / 2 ^ (28 - 4 * c.loop-i.i)) 15) (window-below (c.args.b / 2 ^ (28 - 4 * c.loop-i.i))))
-    ∙ window-next c.args.a c.args.b c.loop-i.sum c.loop-i.i fits (omega arith) c.loop-i.invariant
+pub returns : goal.returns
+returns c = let fits : c.args.a < 2 ^ 32 = search rules in c.product_by_windows.ensures c.args.a fits c.window_table.ensures

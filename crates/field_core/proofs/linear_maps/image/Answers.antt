@@ -1,4 +1,4 @@
-use Rattle.std.proofs.Common.{rules, ℕ, ◌≡◌, ◌*◌, ◌/◌, ◌%◌, ◌^◌, ◌<◌, [], slice_index, slice_index_or, lit<, ap, ◌∙◌}
+use Rattle.std.proofs.Common.{rules, ℕ, ◌≡◌, ◌*◌, ◌/◌, ◌%◌, ◌^◌, ◌<◌, [], slice_index, slice_index_or, lit<}
 use Rattle.field_core.proofs.LinearMaps.{word_is, words_give}
 use Rattle.field_core.proofs.linear_maps.image.Goals as goal
 

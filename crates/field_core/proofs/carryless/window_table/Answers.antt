@@ -1,5 +1,5 @@
 use Rattle.field_core.proofs.Windows.{multiples_are}
-use Rattle.field_core.proofs.carryless.multiples.Goals as goal
+use Rattle.field_core.proofs.carryless.window_table.Goals as goal
 
 pub returns : goal.returns
 returns c = multiples_are c.args.a
