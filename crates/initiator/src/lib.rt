@@ -1,0 +1,10 @@
+//! The opener's machine of rounds (BIP 330).
+#![tactic(auto)]
+
+mod fault;
+mod machine;
+mod stage;
+
+pub use fault::InitiatorFault;
+pub use machine::Initiator;
+pub use pool_rules::{Ending, Report};
