@@ -1,6 +1,6 @@
 //! Why a sketch was not taken.
 
-use std::alloc::AllocError;
+use base_types::OutOfMemory;
 use wire_rules::{Name, Phase};
 
 /// Why a sketch was not taken.
@@ -14,13 +14,13 @@ pub enum InitiatorFault {
     OutOfMemory,
 }
 
-impl From<AllocError> for InitiatorFault {
+impl From<OutOfMemory> for InitiatorFault {
     ghost use Rattle.std.specs.Prelude.{◌≡◌};
-    ghost use Rattle.initiator.specs.declared.fault.InitiatorFault.TheVariants.{OutOfMemory};
+    ghost use Rattle.initiator.specs.declared.fault.InitiatorFault.TheVariants as fault;
 
-    ghost from_gives = { λ _ fault. fault ≡ OutOfMemory };
+    ghost from_gives = { λ _ told. told ≡ fault.OutOfMemory };
 
-    fn from(_error: AllocError) -> InitiatorFault {
+    fn from(_error: OutOfMemory) -> InitiatorFault {
         InitiatorFault::OutOfMemory
     }
 }

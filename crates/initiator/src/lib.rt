@@ -3,6 +3,7 @@
 
 mod fault;
 mod machine;
+mod questions;
 mod stage;
 
 pub use fault::InitiatorFault;

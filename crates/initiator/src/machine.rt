@@ -20,12 +20,12 @@ use wire_rules::{Message, Outs, Phase};
 /// A contract sees it as the machine of the definitions.
 #[derive(Drop)]
 pub struct Initiator<F: Field> {
-    alloc: Global,
-    level: u32,
-    stage: Stage<F>,
-    reports: Vec<Report>,
-    coefficient: u16,
-    begun: u64,
+    pub(crate) alloc: Global,
+    pub(crate) level: u32,
+    pub(crate) stage: Stage<F>,
+    pub(crate) reports: Vec<Report>,
+    pub(crate) coefficient: u16,
+    pub(crate) begun: u64,
 }
 
 impl<F: Field> Model for Initiator<F> {
