@@ -1,2 +1,4 @@
 pub mod Stages
 pub mod Sketches
+pub mod Counts
+pub mod Moves

@@ -1,10 +1,13 @@
 -- What is asked of a sketch, and what is answered.
-use Rattle.std.proofs.Common.{◌≡◌, ℕ, ◌==◌, Bool, true, false, List, map, length, option_map, Option, Some, None, Result, Ok, Err, IsSome, refl, sym, ap, ◌∙◌, subst, if◌then◌else◌}
-use Rattle.pool_rules.specs.Snapshots.{Member}
-use Rattle.node_rules.specs.Opener.{question, question_by, value_or_fault, initiator_question, difference_sketch, round_after_sketch}
+use Rattle.std.proofs.Common.{◌≡◌, ℕ, ◌==◌, Bool, true, false, List, map, length, option_map, Option, Some, None, Result, Ok, Err, IsSome, IsOk, ◌≤◌, arith, refl, sym, ap, ◌∙◌, subst, if◌then◌else◌}
+use Rattle.sketch_rules.specs.Answers.{Answer}
+use Rattle.pool_rules.specs.Snapshots.{Member, snapshot_sketch}
+use Rattle.node_rules.specs.Opener.{answer_to, answer_to_sketch, question, question_by, value_or_fault, initiator_question, difference_sketch, round_after_sketch}
 use Rattle.node_rules.specs.Stages.{requested_extensions}
 use Rattle.node_rules.specs.State.{Machine, Round}
 use Rattle.node_rules.specs.declared.end.End.{End}
+use Rattle.invariant_laws.proofs.Bounds.{answer-is}
+use Rattle.invariant_laws.proofs.Sendable.{merged_few}
 use Rattle.initiator.specs.Questions.{end_of, fault_by, round_by, sketch_fault, round_with, IsQuestion}
 use Rattle.initiator.specs.declared.fault.InitiatorFault.{InitiatorFault}
 use Rattle.initiator.specs.declared.fault.InitiatorFault.TheVariants as fault
@@ -46,3 +49,25 @@ module _ {F : Type 0} (bits_of : F → ℕ) (m : Machine) (set : List Member) (b
     -- memory ran out
     pub want_question : IsQuestion bits_of (initiator_question m set bytes) (Err fault.OutOfMemory)
     want_question = subst (λ q. IsQuestion bits_of q (Err fault.OutOfMemory)) (sym taken_question) refl
+
+taken_none_by : (o : Option ℕ) (m : Machine) (set : List Member) (bytes : List ℕ) (f : Option End) → fault_by o m (length bytes) ≡ f → IsOk (question_by o m set bytes) → f ≡ None
+taken_none_by o m set bytes None e ok = refl
+taken_none_by o m set bytes (Some x) e ok = absurd (let apart : false ≡ true = subst IsOk (refused_by o m set bytes x e) ok in cc)
+
+-- a sketch whose question stands isn't refused
+pub taken_none : (m : Machine) (set : List Member) (bytes : List ℕ) → IsOk (initiator_question m set bytes) → sketch_fault m (length bytes) ≡ None
+taken_none m set bytes ok = taken_none_by (requested_extensions m.phase) m set bytes (sketch_fault m (length bytes)) refl ok
+
+answer_by : (o : Option ℕ) (m : Machine) (set : List Member) (bytes es : List ℕ) → answer_to_sketch o m set bytes ≡ Some es → answer_to (round_by o m set bytes) ≡ Some es
+answer_by None m set bytes es e = absurd (let apart : None ≡ Some es = e in cc)
+answer_by (Some n) m set bytes es e = e
+
+-- the answer is one to the difference, of no more elements than that has sums
+pub found_answer : (m : Machine) (set : List Member) (bytes es : List ℕ) → answer_to_sketch (requested_extensions m.phase) m set bytes ≡ Some es → Answer 32 (difference_sketch (round_with m set bytes)) es
+found_answer m set bytes es e = answer-is (round_with m set bytes) es (answer_by (requested_extensions m.phase) m set bytes es e)
+
+pub found_few : (r : Round) (es : List ℕ) → Answer 32 (difference_sketch r) es → length es ≤ length r.sums
+found_few r es a =
+    let few = a.few in
+    let both = merged_few r.sums (snapshot_sketch r.snapshot (length r.sums)) in
+    omega (arith, few, both)

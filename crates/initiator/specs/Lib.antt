@@ -1,3 +1,4 @@
 pub mod Stages
 pub mod Turns
 pub mod Questions
+pub mod Outcomes

@@ -1,8 +1,10 @@
 //! The opener's machine of rounds (BIP 330).
 #![tactic(auto)]
 
+mod answers;
 mod fault;
 mod machine;
+mod outcome;
 mod questions;
 mod stage;
 

@@ -68,7 +68,7 @@ impl<F: Field> Initiator<F> {
     }
 
     /// The capacity of the first sketch: 0 where it has no bytes.
-    fn first_capacity(&self, skdata: &[u8]) -> u32
+    pub(crate) fn first_capacity(&self, skdata: &[u8]) -> u32
         requires { sketch_fault self.now.machine (length skdata.now) ≡ None }
         ensures value { (set : List Member) → result ≡ (round_with self.now.machine set skdata.now).capacity }
         ensures none { (result == 0) ≡ (length skdata.now == 0) }
@@ -80,7 +80,7 @@ impl<F: Field> Initiator<F> {
     }
 
     /// The peer's sums so far, with those of these bytes behind them.
-    fn peer_sketch(&self, skdata: &[u8]) -> Result<Sketch<F>, OutOfMemory>
+    pub(crate) fn peer_sketch(&self, skdata: &[u8]) -> Result<Sketch<F>, OutOfMemory>
         requires awaited { sketch_fault self.now.machine (length skdata.now) ≡ None }
         requires some { 0 < length skdata.now }
         ensures { IfOk result (λ sketch. (set : List Member) → map F.bits_of sketch ≡ (round_with self.now.machine set skdata.now).sums) }
@@ -98,7 +98,7 @@ impl<F: Field> Initiator<F> {
     }
 
     /// What the round compares with the peer's set: what it took of the own one, or is to take.
-    fn snapshot<'a>(&'a self, set: &'a ReconSet<F>) -> &'a Snapshot<F>
+    pub(crate) fn snapshot<'a>(&'a self, set: &'a ReconSet<F>) -> &'a Snapshot<F>
         ensures { (bytes : List ℕ) → sketch_fault self.now.machine (length bytes) ≡ None
             → result.now.members ≡ (round_with self.now.machine set.now bytes).snapshot }
     {
