@@ -4,6 +4,8 @@
 mod packing;
 mod showing;
 mod stop;
+#[cfg(test)]
+mod tests;
 
 pub use packing::packed_frames;
 pub use showing::shown_text;
