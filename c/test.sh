@@ -30,6 +30,11 @@ run_all() {
 }
 
 run_all ""
+cxx=${CXX:-c++}
+if command -v "$cxx" >/dev/null; then # C++ reads the headers
+    printf '#include "erlay.h"\n#include "minisketch.h"\nint main() { return minisketch_bits_supported(32) - 1 + static_cast<int>(erlay_sketch_size(0)); }\n' >"$built/headers.cpp"
+    $cxx -std=c++11 -Wall -Wextra -Wpedantic -Werror -I "$built/include" "$built/headers.cpp" -o "$built/headers" "$built/lib/liberlay.a" && "$built/headers"
+fi
 sanitizers=(-fsanitize=address,undefined -fno-sanitize-recover=all)
 echo 'int main(void) { return 0; }' >"$built/probe.c"
 if $cc "${sanitizers[@]}" "$built/probe.c" -o "$built/probe" 2>/dev/null && "$built/probe"; then
