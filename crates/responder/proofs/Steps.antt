@@ -20,7 +20,8 @@ use Rattle.node_rules.specs.Outcomes.{report_of}
 use Rattle.node_rules.specs.Accepter.{accepter_reqrecon, reqrecon_by, accepter_extension, extension_after, extension_by, next_portion, accepter_diff, diff_after, diff_by, diff_fault, accepter_announcement, ending_of}
 use Rattle.node_rules.specs.declared.end.End.{End}
 use Rattle.node_rules.specs.declared.end.End.TheVariants as end
-use Rattle.responder.specs.Answers.{end_of, IsFault, IsRefusal}
+use Rattle.invariant_laws.proofs.Stages.{sent_extensions-sent_phase}
+use Rattle.responder.specs.Refusals.{end_of, IsFault, IsRefusal}
 use Rattle.responder.specs.Machines.{Progress, round_of, idle_machine, machine_of}
 use Rattle.responder.specs.declared.fault.ResponderFault.{ResponderFault}
 use Rattle.responder.specs.declared.fault.ResponderFault.TheVariants as fault
@@ -28,15 +29,6 @@ use Rattle.responder.specs.declared.fault.ResponderFault.TheVariants as fault
 -- what is sent after a step, and the machine behind it
 abbrev pub response : ℕ → List Report → Progress → List ℕ → Response
 response level reports p bytes = record { machine = machine_of level (Some p) reports; out = message.Sketch bytes ∷ [] }
-
--- ---- phases
-
-pub sent_back : (n : ℕ) → n ≤ 2 → sent_extensions (sent_phase n) ≡ Some n
-unfolding sent_extensions sent_phase
-sent_back zero le = refl
-sent_back (suc zero) le = refl
-sent_back (suc (suc zero)) le = refl
-sent_back (suc (suc (suc n))) le = absurd (omega arith)
 
 busy : (n : ℕ) → is_idle (sent_phase n) ≡ false
 unfolding is_idle sent_phase
@@ -93,7 +85,7 @@ module _ (level : ℕ) (reports : List Report) (m : Machine) where
       → accepter_extension (machine_of level (Some p) reports) ≡ extension_by b (machine_of level (Some p) reports) p.extensions
   unfolding extension_after
   extension_by_test p b few test =
-      ap (λ o. extension_after o (machine_of level (Some p) reports)) (sent_back p.extensions few)
+      ap (λ o. extension_after o (machine_of level (Some p) reports)) (sent_extensions-sent_phase p.extensions few)
       ∙ ap (λ t. extension_by t (machine_of level (Some p) reports) p.extensions) test
 
   level_refused : (p : Progress) → p.extensions ≤ 2 → level ≤ p.extensions → accepter_extension (machine_of level (Some p) reports) ≡ Err (end.Misplaced name.ReqSketchExt (sent_phase p.extensions))
@@ -143,7 +135,7 @@ module _ (level : ℕ) (reports : List Report) (m : Machine) (success : Bool) (a
     unfolding diff_after
     diff_by_fault first is =
         ap (λ z. accepter_diff z success asks) (sym view ∙ ap (λ z. machine_of level z reports) some)
-        ∙ ap (λ n. diff_after n (machine_of level (Some p) reports) success asks) (sent_back p.extensions few)
+        ∙ ap (λ n. diff_after n (machine_of level (Some p) reports) success asks) (sent_extensions-sent_phase p.extensions few)
         ∙ ap (λ z. diff_by z (machine_of level (Some p) reports) p.extensions success asks) is
 
     pub faults_refused : (f : ResponderFault) → IsFault (diff_fault success (round_of p) asks) f → IsRefusal (accepter_diff m success asks) f

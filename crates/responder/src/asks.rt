@@ -3,7 +3,7 @@
 ghost use Rattle.std.specs.Prelude.{◌≡◌, [], None, OnOk, IfErr};
 ghost use Rattle.pool_rules.specs.Snapshots.{sketched_shorts};
 ghost use Rattle.node_rules.specs.Accepter.{ask_fault};
-ghost use Rattle.responder.specs.Answers.{IsFault};
+ghost use Rattle.responder.specs.Refusals.{IsFault};
 
 use crate::ResponderFault;
 use field_core::Field;

@@ -2,7 +2,7 @@
 
 ghost use Rattle.std.specs.Prelude.{◌≡◌, ◌≤◌, [], ◌∷◌, Ok, IfOk, IfErr, OnErr};
 ghost use Rattle.node_rules.specs.Accepter.{accepter_reqrecon, accepter_extension, accepter_diff};
-ghost use Rattle.responder.specs.Answers.{IsRefusal};
+ghost use Rattle.responder.specs.Refusals.{IsRefusal};
 ghost use Rattle.responder.specs.Machines.{idle_machine};
 ghost use Rattle.responder.specs.declared.fault.ResponderFault.TheVariants as responder_fault;
 

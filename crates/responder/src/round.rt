@@ -8,7 +8,7 @@ ghost use Rattle.pool_rules.specs.declared.limits.TheConstants.{LEAST_CAPACITY, 
 ghost use Rattle.node_rules.specs.Accepter.{next_portion as portion_behind, diff_fault, accepter_announcement, ending_of};
 ghost use Rattle.node_rules.specs.Outcomes.{report_of};
 ghost use Rattle.node_rules.specs.Stages.{sent_phase};
-ghost use Rattle.responder.specs.Answers.{IsFault};
+ghost use Rattle.responder.specs.Refusals.{IsFault};
 
 use crate::ResponderFault;
 use crate::asks::check_asks;

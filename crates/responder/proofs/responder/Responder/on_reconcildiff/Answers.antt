@@ -3,7 +3,7 @@ use Rattle.std.proofs.lemmas.Result.{err_from_is_err_and}
 use Rattle.node_rules.specs.Accepter.{diff_fault, accepter_announcement, ending_of}
 use Rattle.node_rules.specs.Outcomes.{report_of}
 use Rattle.node_rules.specs.Turns.{inv_of}
-use Rattle.responder.specs.Answers.{IsFault}
+use Rattle.responder.specs.Refusals.{IsFault}
 use Rattle.responder.specs.Machines.{Progress, round_of}
 use Rattle.responder.proofs.Steps.{idle_ends_not, faults_refused, diff_answers}
 use Rattle.responder.proofs.responder.Responder.on_reconcildiff.Goals as goal
