@@ -1,23 +1,23 @@
 -- What a sketch that isn't refused makes of a machine.
-use Rattle.std.proofs.Common.{◌≡◌, ℕ, zero, suc, ◌+◌, ◌-◌, ◌*◌, ◌/◌, ◌%◌, ◌<◌, ◌≤◌, ◌==◌, ◌++◌, ◌∷◌, [], not, nat_lt, nat_le, Bool, true, false, List, map, length, Option, Some, None, Result, Ok, Err, IfOk, refl, sym, ap, ◌∙◌, subst, arith, eqb-true, add-one}
+use Rattle.std.proofs.Common.{◌≡◌, ℕ, zero, suc, ◌+◌, ◌*◌, ◌/◌, ◌%◌, ◌<◌, ◌≤◌, ◌==◌, ◌++◌, ◌∷◌, [], nat_le, true, false, List, map, length, Option, Some, None, option_and_then, Result, Ok, Err, IfOk, refl, sym, ap, ◌∙◌, subst, arith, eqb-true, add-one}
 use Rattle.std.proofs.lemmas.Bool.{and_parts, leb-true}
 use Rattle.std.proofs.lemmas.List.{length-append, length-map}
+use Rattle.sketch_rules.specs.Answers.{answer_of}
 use Rattle.sketch_rules.specs.Sketches.{sums_in}
 use Rattle.sketch_laws.proofs.Bytes.{length-sums_in}
 use Rattle.wire_rules.specs.declared.message.Message.{Message}
 use Rattle.wire_rules.specs.declared.message.Message.TheVariants as message
-use Rattle.wire_rules.specs.declared.phase.Phase.{Phase}
 use Rattle.wire_rules.specs.declared.phase.Phase.TheVariants as phase
 use Rattle.base_types.specs.declared.lists.Hash32.{Hash32}
 use Rattle.pool_rules.specs.Snapshots.{Member, ids_of}
 use Rattle.pool_rules.specs.declared.limits.TheConstants.{FIRST_LIMIT}
 use Rattle.pool_rules.specs.declared.report.Ending.{Ending}
-use Rattle.node_rules.specs.Opener.{opener_sketch, sketch_by, answer_to_sketch, value_or_fault, after_sketch, on_decoding, on_no_answer, on_answer, on_fallback, extension_request, coefficient_after, has_extension_left, remaining_set, round_after_sketch}
+use Rattle.node_laws.proofs.Questions.{opener_sketch-answered}
+use Rattle.node_rules.specs.Opener.{initiator_question, opener_sketch, after_sketch, on_decoding, on_no_answer, on_answer, on_fallback, extension_request, coefficient_after, has_extension_left, remaining_set}
 use Rattle.node_rules.specs.Outcomes.{after_round, missing_short_ids, announcement}
 use Rattle.node_rules.specs.Stages.{waiting_phase, requested_extensions, answered_ending}
 use Rattle.node_rules.specs.State.{Initiator, Machine, Round}
 use Rattle.node_rules.specs.Turns.{Move, inv_of}
-use Rattle.node_rules.specs.declared.end.End.{End}
 use Rattle.invariant_laws.proofs.Stages.{some_is}
 use Rattle.initiator.specs.Outcomes.{answered_outcome, fallback_outcome}
 use Rattle.initiator.specs.Questions.{fault_by, round_by, sketch_fault, round_with}
@@ -67,18 +67,13 @@ remaining-pending st p n set is e h =
     let pending = subst IsStage e is in
     remaining_more n set (let once = pending.once in omega (arith, once, extensions-pending st p n e h))
 
-not_extending : {F : Type 0} (st : Stage F) → st ≡ stage.Waiting → (p : Pending F) → st ≡ stage.Extending p → ⊥
-not_extending st e p h = cc
-
-pub remaining-waiting : {F : Type 0} (st : Stage F) (n : ℕ) (set : List Member) → st ≡ stage.Waiting → extensions_at st ≡ Some n → remaining_set n set ≡ []
-remaining-waiting st n set e h = remaining-fresh st n set (not_extending st e) h
-
-pub remaining-later : {F : Type 0} (st : Stage F) (n : ℕ) (set : List Member) → IsStage st → (st ≡ stage.Waiting → ⊥) → extensions_at st ≡ Some n → remaining_set n set ≡ set
-remaining-later stage.Idle n set is x h = absurd (cc)
-remaining-later stage.Waiting n set is x h = absurd (x refl)
-remaining-later (stage.Extending p) n set is x h = remaining-pending (stage.Extending p) p n set is refl h
-remaining-later stage.Barrier n set is x h = absurd (cc)
-remaining-later stage.Fetching n set is x h = absurd (cc)
+-- a round takes the set at its first sketch
+pub remaining-taken : {F : Type 0} (st : Stage F) (n : ℕ) (set left : List Member) → IsStage st → (st ≡ stage.Waiting → left ≡ []) → ((st ≡ stage.Waiting → ⊥) → left ≡ set) → extensions_at st ≡ Some n → left ≡ remaining_set n set
+remaining-taken stage.Idle n set left is first later h = absurd (cc)
+remaining-taken stage.Waiting n set left is first later h = first refl ∙ sym (remaining_none n set (some_is 0 n h))
+remaining-taken (stage.Extending p) n set left is first later h = later (λ e. absurd (cc)) ∙ sym (remaining-pending (stage.Extending p) p n set is refl h)
+remaining-taken stage.Barrier n set left is first later h = absurd (cc)
+remaining-taken stage.Fetching n set left is first later h = absurd (cc)
 
 -- ---- an extension
 
@@ -158,41 +153,30 @@ extended i r n next rest left outs ms c sums e a b d f h =
 
 -- ---- the move of an opener
 
-module _ (i : Initiator) (set : List Member) (bytes : List ℕ) (none : sketch_fault i.machine (length bytes) ≡ None) where
-  moved_by : (answer : Option (List ℕ)) (o : Option ℕ) (n : ℕ) → o ≡ Some n → fault_by o i.machine (length bytes) ≡ None
-      → sketch_by answer o i set bytes ≡ Ok (on_decoding answer i (round_by o i.machine set bytes) n (remaining_set n set))
-  unfolding sketch_by
-  moved_by answer None n e f = absurd (cc)
-  moved_by answer (Some k) n e f =
-      let same : k ≡ n = some_is k n e in
-      ap (λ x. value_or_fault x (after_sketch answer i set k bytes)) f
-      ∙ ap (λ j. Ok (on_decoding answer i (round_after_sketch i.machine set k bytes) j (remaining_set j set))) same
-
-  moved : (answer : Option (List ℕ)) (n : ℕ) → requested_extensions i.machine.phase ≡ Some n → answer_to_sketch (requested_extensions i.machine.phase) i.machine set bytes ≡ answer
-      → opener_sketch i set bytes ≡ Ok (on_decoding answer i (round_with i.machine set bytes) n (remaining_set n set))
-  moved answer n e a =
-      ap (λ x. sketch_by x (requested_extensions i.machine.phase) i set bytes) a ∙ moved_by answer (requested_extensions i.machine.phase) n e none
+module _ (i : Initiator) (set : List Member) (bytes : List ℕ) (q : Option (List ℕ)) (taken : initiator_question i.machine set bytes ≡ Ok q) (n : ℕ) (asked : requested_extensions i.machine.phase ≡ Some n) where
+  moved : (answer : Option (List ℕ)) → option_and_then answer_of q ≡ answer → opener_sketch i set bytes ≡ Ok (on_decoding answer i (round_with i.machine set bytes) n (remaining_set n set))
+  moved answer a =
+      opener_sketch-answered i set bytes n q asked taken
+      ∙ ap (λ x. Ok (after_sketch x i set n bytes)) a
+      ∙ ap (λ o. Ok (on_decoding answer i (round_by o i.machine set bytes) n (remaining_set n set))) (sym asked)
 
   -- a set has the sketch
-  pub answered_move : (es : List ℕ) (n : ℕ) → requested_extensions i.machine.phase ≡ Some n → answer_to_sketch (requested_extensions i.machine.phase) i.machine set bytes ≡ Some es
-      → opener_sketch i set bytes ≡ Ok (on_answer i (round_with i.machine set bytes) n es (remaining_set n set))
+  pub answered_move : (es : List ℕ) → option_and_then answer_of q ≡ Some es → opener_sketch i set bytes ≡ Ok (on_answer i (round_with i.machine set bytes) n es (remaining_set n set))
   unfolding on_decoding
-  answered_move es n e a = moved (Some es) n e a
+  answered_move es a = moved (Some es) a
 
   -- no set has it: by whether it may be extended
-  pub extended_move : (n : ℕ) → requested_extensions i.machine.phase ≡ Some n → answer_to_sketch (requested_extensions i.machine.phase) i.machine set bytes ≡ None
-      → has_extension_left i.machine (round_with i.machine set bytes) n ≡ true
+  pub extended_move : option_and_then answer_of q ≡ None → has_extension_left i.machine (round_with i.machine set bytes) n ≡ true
       → opener_sketch i set bytes ≡ Ok (extension_request i (round_with i.machine set bytes) n (remaining_set n set))
   unfolding on_decoding on_no_answer
-  extended_move n e a left =
-      moved None n e a ∙ ap (λ t. Ok (on_no_answer t i (round_with i.machine set bytes) n (remaining_set n set))) left
+  extended_move a left =
+      moved None a ∙ ap (λ t. Ok (on_no_answer t i (round_with i.machine set bytes) n (remaining_set n set))) left
 
-  pub fallen_move : (n : ℕ) → requested_extensions i.machine.phase ≡ Some n → answer_to_sketch (requested_extensions i.machine.phase) i.machine set bytes ≡ None
-      → has_extension_left i.machine (round_with i.machine set bytes) n ≡ false
+  pub fallen_move : option_and_then answer_of q ≡ None → has_extension_left i.machine (round_with i.machine set bytes) n ≡ false
       → opener_sketch i set bytes ≡ Ok (on_fallback i (round_with i.machine set bytes) (remaining_set n set))
   unfolding on_decoding on_no_answer
-  fallen_move n e a left =
-      moved None n e a ∙ ap (λ t. Ok (on_no_answer t i (round_with i.machine set bytes) n (remaining_set n set))) left
+  fallen_move a left =
+      moved None a ∙ ap (λ t. Ok (on_no_answer t i (round_with i.machine set bytes) n (remaining_set n set))) left
 
 -- ---- the end of a round
 

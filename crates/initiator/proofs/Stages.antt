@@ -1,5 +1,5 @@
 -- A machine that stands at a stage: which sketch it waits for, and what a sketch makes of its round.
-use Rattle.std.proofs.Common.{◌≡◌, ℕ, zero, suc, ◌+◌, ◌-◌, ◌*◌, ◌/◌, ◌%◌, ◌<◌, ◌≤◌, ◌==◌, ◌++◌, Bool, true, false, List, map, length, Option, Some, None, refl, sym, ap, ◌∙◌, subst, arith, eqb-true, eq-eqb, ne_eqb, if◌then◌else◌, nat_le}
+use Rattle.std.proofs.Common.{◌≡◌, ℕ, zero, suc, ◌+◌, ◌-◌, ◌*◌, ◌/◌, ◌%◌, ◌≤◌, ◌==◌, ◌++◌, Bool, true, false, List, map, length, Option, Some, None, refl, sym, ap, ◌∙◌, subst, arith, eqb-true, eq-eqb, ne_eqb, if◌then◌else◌, nat_le}
 use Rattle.std.proofs.Math.Nat.{mul-le-mul_left}
 use Rattle.std.proofs.lemmas.Bool.{and_parts, leb-true}
 use Rattle.std.proofs.lemmas.Bool.Decides.{nat_tests}
@@ -9,9 +9,9 @@ use Rattle.sketch_rules.specs.declared.limits.TheConstants.{MAX_CAPACITY}
 use Rattle.wire_rules.specs.declared.name.Name.TheVariants as name
 use Rattle.pool_rules.specs.Snapshots.{Member}
 use Rattle.pool_rules.specs.declared.limits.TheConstants.{FIRST_LIMIT}
-use Rattle.node_rules.specs.Opener.{length_fault, is_first_length, extension_length, round_after_sketch}
-use Rattle.node_rules.specs.Stages.{waiting_phase, requested_extensions, capacity_after}
-use Rattle.node_rules.specs.State.{Initiator, Machine, Round, no_round}
+use Rattle.node_rules.specs.Opener.{length_fault, is_first_length, round_after_sketch}
+use Rattle.node_rules.specs.Stages.{requested_extensions, capacity_after}
+use Rattle.node_rules.specs.State.{Initiator, Machine, Round}
 use Rattle.node_rules.specs.declared.end.End.{End}
 use Rattle.node_rules.specs.declared.end.End.TheVariants as end
 use Rattle.invariant_laws.proofs.Stages.{asked-waiting_phase}

@@ -1,5 +1,5 @@
 -- The machine that a stage is part of.
-use Rattle.std.specs.Prelude.{◌≡◌, ℕ, ◌-◌, ◌≤◌, List, map, length}
+use Rattle.std.specs.Prelude.{◌≡◌, ℕ, ◌-◌, ◌≤◌, map, length}
 use Rattle.wire_rules.specs.declared.phase.Phase.{Phase}
 use Rattle.wire_rules.specs.declared.phase.Phase.TheVariants as phase
 use Rattle.pool_rules.specs.declared.limits.TheConstants.{FIRST_LIMIT}

@@ -1,13 +1,15 @@
 //! What the machine does once a sketch was decoded.
 
-ghost use Rattle.std.specs.Prelude.{◌≡◌, ℕ, ◌<◌, ◌==◌, List, false, length, IfOk, OnErr, Ok, Some, None, IsOk, IsSome, not, nat_lt, ◌&&◌};
+ghost use Rattle.std.specs.Prelude.{◌≡◌, ℕ, ◌<◌, ◌==◌, List, [], false, length, IfOk, OnErr, Ok, Some, None, IsOkAnd, IsSome, option_and_then, not, nat_lt, ◌&&◌};
 ghost use Rattle.sketch_core.specs.Answered.{decoded_numbers};
+ghost use Rattle.sketch_rules.specs.Answers.{answer_of};
 ghost use Rattle.pool_rules.specs.Snapshots.{Member};
 ghost use Rattle.wire_rules.specs.declared.phase.Phase.TheVariants as phase;
-ghost use Rattle.node_rules.specs.Opener.{initiator_question, answer_to_sketch, opener_sketch, remaining_set, extension_request};
+ghost use Rattle.node_rules.specs.Opener.{initiator_question, opener_sketch, remaining_set, extension_request};
 ghost use Rattle.node_rules.specs.Outcomes.{after_round};
 ghost use Rattle.node_rules.specs.Stages.{answered_ending, requested_extensions};
 ghost use Rattle.initiator.specs.Questions.{round_with, sketch_fault};
+ghost use Rattle.initiator.specs.declared.stage.Stage.TheVariants as stage;
 
 use crate::Initiator;
 use crate::outcome::{Outcome, answered, fallen_back, short_ids};
@@ -32,6 +34,16 @@ fn ending_after(extensions: u32) -> Ending
     }
 }
 
+/// Empties the set, where the first sketch of a round was waited for.
+fn empty_at_first<F: Field>(at: &Stage<F>, set: &mut ReconSet<F>)
+    ensures first { at.now ≡ stage.Waiting → set.new ≡ [] }
+    ensures later { (at.now ≡ stage.Waiting → ⊥) → set.new ≡ set.old }
+{
+    if let Stage::Waiting = at {
+        let _taken = set.take_snapshot();
+    }
+}
+
 impl<F: Field> Initiator<F> {
     /// Takes the bytes of a sketch, with what `merged` gives for them decoded: the round is answered or falls back, or an
     /// extension is asked for. The first sketch of a round takes the set. Where memory runs out, all is as it was.
@@ -41,9 +53,7 @@ impl<F: Field> Initiator<F> {
         set: &mut ReconSet<F>,
         answer: Decoded<F>,
     ) -> Result<Outs, OutOfMemory>
-        requires taken { IsOk (initiator_question self.old.machine set.old skdata.now) }
-        requires answer { decoded_numbers F.bits_of answer
-            ≡ answer_to_sketch (requested_extensions self.old.machine.phase) self.old.machine set.old skdata.now }
+        requires { IsOkAnd (initiator_question self.old.machine set.old skdata.now) (λ asked. decoded_numbers F.bits_of answer ≡ option_and_then answer_of asked) }
         ensures ok { IfOk result (λ outs. opener_sketch self.old set.old skdata.now ≡ Ok (record { initiator = self.new; set = set.new; out = outs })) }
         ensures err { OnErr result ((self.new ≡ self.old) × (set.new ≡ set.old)) }
     {
@@ -135,9 +145,7 @@ impl<F: Field> Initiator<F> {
             messages,
         } = outcome;
         self.reports.push(report)?;
-        if let Stage::Waiting = self.stage {
-            let _taken = set.take_snapshot();
-        }
+        empty_at_first(&self.stage, set);
         self.stage = Stage::Barrier;
         self.coefficient = coefficient;
         Ok(messages)

@@ -1,4 +1,4 @@
-use Rattle.std.proofs.Common.{◌≡◌, ap, ◌∙◌}
+use Rattle.std.proofs.Common.{ap, ◌∙◌}
 use Rattle.node_rules.specs.Opener.{coefficient_after}
 use Rattle.node_rules.specs.Outcomes.{missing_short_ids, announcement}
 use Rattle.initiator.proofs.Moves.{answered_parts}

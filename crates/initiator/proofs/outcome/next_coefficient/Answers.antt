@@ -1,4 +1,4 @@
-use Rattle.std.proofs.Common.{◌≡◌, ℕ, ◌+◌, ◌-◌, ◌≤◌, List, length, sym, ap, ◌∙◌, arith, rules}
+use Rattle.std.proofs.Common.{◌≡◌, ◌-◌, ◌≤◌, length, ap, ◌∙◌, arith, rules}
 use Rattle.pool_rules.specs.Capacity.{next_q}
 use Rattle.pool_rules.specs.Snapshots.{sketched_shorts}
 use Rattle.pool_rules.specs.declared.limits.TheConstants.{POOL_LIMIT}

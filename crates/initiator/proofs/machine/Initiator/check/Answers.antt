@@ -1,4 +1,4 @@
-use Rattle.std.proofs.Common.{◌≡◌, ◌*◌, ◌==◌, Bool, Some, None, if◌then◌else◌, refl, sym, ap, ◌∙◌}
+use Rattle.std.proofs.Common.{Bool, Some, None, if◌then◌else◌, refl, sym, ap, ◌∙◌}
 use Rattle.wire_rules.specs.declared.name.Name.TheVariants as name
 use Rattle.node_rules.specs.declared.end.End.TheVariants as end
 use Rattle.initiator.proofs.Stages.{at_view, fault_at, fault_in, fault_elsewhere, other_length, wanted_length}

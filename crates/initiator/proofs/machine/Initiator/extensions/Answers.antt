@@ -1,4 +1,4 @@
-use Rattle.std.proofs.Common.{◌≡◌, refl, sym, ◌∙◌}
+use Rattle.std.proofs.Common.{refl, sym, ◌∙◌}
 use Rattle.initiator.proofs.Moves.{extensions-pending, extensions-fresh}
 use Rattle.initiator.proofs.Stages.{at_view, requested_at}
 use Rattle.initiator.proofs.machine.Initiator.extensions.Goals as goal

@@ -1,4 +1,4 @@
-use Rattle.std.proofs.Common.{◌≡◌, ℕ, ◌<◌, ◌≤◌, ◌==◌, ◌/◌, ◌^◌, length, false, refl, sym, ap, ◌∙◌, subst, arith, rules, ne_eqb}
+use Rattle.std.proofs.Common.{length, refl, sym, ap, ◌∙◌, subst, arith, rules, ne_eqb}
 use Rattle.node_rules.specs.State.{Round}
 use Rattle.initiator.specs.Stages.{IsStage}
 use Rattle.initiator.proofs.Stages.{at_view, first_len, fresh_round, extension_len, extending_round, pending_some, none_of_four}

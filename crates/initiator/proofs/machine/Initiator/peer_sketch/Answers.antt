@@ -1,7 +1,6 @@
-use Rattle.std.proofs.Common.{◌≡◌, ◌≤◌, ◌*◌, ◌++◌, List, map, length, refl, sym, ap, ap₂, ◌∙◌, subst, arith}
+use Rattle.std.proofs.Common.{◌≡◌, ◌++◌, List, map, length, refl, sym, ap, ap₂, ◌∙◌, subst, arith}
 use Rattle.std.proofs.lemmas.List.{take_all, map-append, length-map}
 use Rattle.std.proofs.lemmas.Result.{IfOk-weaker}
-use Rattle.sketch_rules.specs.Sketches.{sums_in}
 use Rattle.sketch_laws.proofs.Bytes.{length-sums_in}
 use Rattle.pool_rules.specs.Snapshots.{Member}
 use Rattle.initiator.specs.Questions.{round_with}
