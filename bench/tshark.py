@@ -91,7 +91,7 @@ def words_of(fields):
     if command == "version":
         agent = raw(fields, "bitcoin.version.user_agent")[0][2:]
         return ([command] + one("bitcoin.version.version") + one("bitcoin.version.services") + seconds(fields)
-                + raw(fields, "bitcoin.version.addr_me") + raw(fields, "bitcoin.version.addr_you") + one("bitcoin.version.nonce")
+                + raw(fields, "bitcoin.version.addr_you") + raw(fields, "bitcoin.version.addr_me") + one("bitcoin.version.nonce")
                 + [agent] + one("bitcoin.version.start_height") + one("bitcoin.version.relay"))
     if command in ("ping", "pong"):
         return [command] + one(f"bitcoin.{command}.nonce")
