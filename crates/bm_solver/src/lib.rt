@@ -3,8 +3,6 @@
 
 mod locator;
 mod solver;
-#[cfg(test)]
-mod tests;
 
 pub use locator::{Locator, monic};
 pub use solver::shortest;

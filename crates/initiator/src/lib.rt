@@ -7,8 +7,6 @@ mod machine;
 mod outcome;
 mod questions;
 mod stage;
-#[cfg(test)]
-mod tests;
 
 pub use fault::InitiatorFault;
 pub use machine::Initiator;

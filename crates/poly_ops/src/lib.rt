@@ -10,6 +10,3 @@ pub use frobenius::frobenius_table;
 pub use poly::Poly;
 pub use recurrence::extend_recurrence;
 pub use remainder::{rem_monic, square_mod};
-
-#[cfg(test)]
-mod tests;

@@ -5,8 +5,6 @@ mod members;
 mod set;
 mod snapshot;
 mod sums;
-#[cfg(test)]
-mod tests;
 
 pub use set::ReconSet;
 pub use snapshot::Snapshot;

@@ -6,8 +6,6 @@ mod asks;
 mod fault;
 mod responder;
 mod round;
-#[cfg(test)]
-mod tests;
 
 pub use fault::ResponderFault;
 pub use responder::Responder;

@@ -7,8 +7,6 @@ mod decoding;
 mod members;
 mod part;
 mod splitting;
-#[cfg(test)]
-mod tests;
 mod traces;
 
 pub use decoding::decode;

@@ -1,8 +1,8 @@
 //! Rounds with a plain peer, and sketches that are refused.
 
-use super::*;
 use base_types::{Hash32, Hashes};
 use field_core::Gf32;
+use initiator::{Initiator, InitiatorFault};
 use pool_rules::FIRST_COEFFICIENT;
 use recon_set::ReconSet;
 use std::process::Abort;

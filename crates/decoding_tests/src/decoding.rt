@@ -2,13 +2,13 @@
 
 ghost use Rattle.std.specs.Prelude.{◌≢◌, IsTrue};
 
-use super::*;
 use base_types::OutOfMemory;
 use bm_solver::shortest;
 use field_core::{Field, Gf32};
 use sketch_core::{Decoded, Sketch};
 use sketch_rules::MAX_CAPACITY;
 use std::alloc::Global;
+use trace_roots::{decode, split};
 
 /// The elements of these numbers.
 fn elements(alloc: Global, numbers: &[u32]) -> Result<Vec<Gf32>, OutOfMemory> {

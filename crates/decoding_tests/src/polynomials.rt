@@ -1,9 +1,9 @@
 ghost use Rattle.std.specs.Prelude.{◌≡◌, ◌≤◌, length, IfOk, IsTrue};
 ghost use Rattle.poly_rules.specs.Polynomials.{degree, IsMonic};
 
-use super::*;
 use base_types::OutOfMemory;
 use field_core::{Field, Gf32};
+use poly_ops::{Poly, extend_recurrence, frobenius_table, rem_monic, square_mod};
 use std::alloc::Global;
 
 /// The polynomial of these coefficients.

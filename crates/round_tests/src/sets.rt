@@ -1,9 +1,9 @@
 //! Sets of a few ids, and of random ones against sums made anew.
 
-use crate::{ReconSet, Snapshot};
 use base_types::Hash32;
 use field_core::{Field, Gf32};
 use pool_rules::POOL_LIMIT;
+use recon_set::{ReconSet, Snapshot};
 use sketch_core::SketchFault;
 
 /// Adds the first four odd powers of each short id that stands once.

@@ -1,5 +1,5 @@
-use super::*;
 use base_types::OutOfMemory;
+use bm_solver::{Locator, monic, shortest};
 use field_core::{Field, Gf32};
 use poly_ops::Poly;
 use std::alloc::Global;

@@ -1,10 +1,10 @@
 //! Rounds of a few ids.
 
-use super::*;
 use base_types::{Bytes, Hash32, Shorts};
 use field_core::{Field, Gf32};
 use pool_rules::{Ending, POOL_LIMIT};
 use recon_set::ReconSet;
+use responder::{Responder, ResponderFault};
 use std::alloc::{AllocError, Global};
 use std::process::Abort;
 use wire_rules::{Message, Name, Outs, Phase};

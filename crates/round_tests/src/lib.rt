@@ -1,0 +1,11 @@
+//! Tests of sets, of both machines of a round, and of whole rounds. They stand here so that the crates below are proved once.
+#![tactic(auto)]
+
+#[cfg(test)]
+mod accepter;
+#[cfg(test)]
+mod opener;
+#[cfg(test)]
+mod rounds;
+#[cfg(test)]
+mod sets;
