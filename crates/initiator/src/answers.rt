@@ -53,8 +53,10 @@ impl<F: Field> Initiator<F> {
         set: &mut ReconSet<F>,
         answer: Decoded<F>,
     ) -> Result<Outs, OutOfMemory>
-        requires { IsOkAnd (initiator_question self.old.machine set.old skdata.now) (λ asked. decoded_numbers F.bits_of answer ≡ option_and_then answer_of asked) }
-        ensures ok { IfOk result (λ outs. opener_sketch self.old set.old skdata.now ≡ Ok (record { initiator = self.new; set = set.new; out = outs })) }
+        requires { IsOkAnd (initiator_question self.old.machine set.old skdata.now)
+            (λ asked. decoded_numbers F.bits_of answer ≡ option_and_then answer_of asked) }
+        ensures ok { IfOk result (λ outs. opener_sketch self.old set.old skdata.now
+            ≡ Ok (record { initiator = self.new; set = set.new; out = outs })) }
         ensures err { OnErr result ((self.new ≡ self.old) × (set.new ≡ set.old)) }
     {
         let capacity = self.first_capacity(skdata);
@@ -136,7 +138,8 @@ impl<F: Field> Initiator<F> {
           machine = after_round self.old.machine phase.Barrier outcome.report;
           requests = record self.old.requests { coefficient = outcome.coefficient };
         }) }
-        ensures set { IfOk result (λ _. (n : ℕ) → requested_extensions self.old.machine.phase ≡ Some n → set.new ≡ remaining_set n set.old) }
+        ensures set { IfOk result (λ _. (n : ℕ) → requested_extensions self.old.machine.phase ≡ Some n
+            → set.new ≡ remaining_set n set.old) }
         ensures err { OnErr result ((self.new ≡ self.old) × (set.new ≡ set.old)) }
     {
         let Outcome {

@@ -131,7 +131,8 @@ impl<F: Field> Initiator<F> {
     /// The peer's pong of this number has come, and these ids are wanted. That of the round asks for them.
     #[tactic(auto, unfolding(node_rules::specs::Barrier::is_barrier, node_rules::specs::Barrier::phase_after_barrier, node_rules::specs::Barrier::pong_response, node_rules::specs::Stages::waiting_phase))]
     pub fn on_pong(&mut self, number: u64, wanted: &Hashes) -> Result<Outs, OutOfMemory>
-        ensures ok { IfOk result (λ outs. initiator_pong self.old number wanted.now ≡ record { machine = self.new.machine; out = outs }) }
+        ensures ok { IfOk result (λ outs. initiator_pong self.old number wanted.now
+            ≡ record { machine = self.new.machine; out = outs }) }
         ensures requests { self.new.requests ≡ self.old.requests }
         ensures err { OnErr result (self.new ≡ self.old) }
     {

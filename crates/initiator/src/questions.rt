@@ -83,7 +83,8 @@ impl<F: Field> Initiator<F> {
     pub(crate) fn peer_sketch(&self, skdata: &[u8]) -> Result<Sketch<F>, OutOfMemory>
         requires awaited { sketch_fault self.now.machine (length skdata.now) ≡ None }
         requires some { 0 < length skdata.now }
-        ensures { IfOk result (λ sketch. (set : List Member) → map F.bits_of sketch ≡ (round_with self.now.machine set skdata.now).sums) }
+        ensures { IfOk result (λ sketch. (set : List Member)
+            → map F.bits_of sketch ≡ (round_with self.now.machine set skdata.now).sums) }
     {
         let Ok(more) = from_bytes(self.alloc, skdata) else {
             return Err(OutOfMemory);

@@ -28,7 +28,8 @@ pub fn take_sketch<F: Field>(
     skdata: &[u8],
 ) -> Result<Outs, InitiatorFault>
     requires { F.BITS ≡ 32 }
-    ensures ok { IfOk result (λ outs. opener_sketch machine.old set.old skdata.now ≡ Ok (record { initiator = machine.new; set = set.new; out = outs })) }
+    ensures ok { IfOk result (λ outs. opener_sketch machine.old set.old skdata.now
+        ≡ Ok (record { initiator = machine.new; set = set.new; out = outs })) }
     ensures told { IfErr result (λ fault. IfSome (end_of fault) (λ end. opener_sketch machine.old set.old skdata.now ≡ Err end)) }
     ensures refused { IfErr (opener_sketch machine.old set.old skdata.now) (λ end. IsErrAnd result (λ fault. end_of fault ≡ Some end)) }
     ensures err { OnErr result ((machine.new ≡ machine.old) × (set.new ≡ set.old)) }

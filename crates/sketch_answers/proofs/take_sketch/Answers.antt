@@ -1,4 +1,3 @@
-use Rattle.std.proofs.Common.{◌≡◌, refl}
 use Rattle.std.proofs.lemmas.Result.{err_from_is_err_and}
 use Rattle.node_rules.specs.Opener.{opener_sketch}
 use Rattle.sketch_answers.proofs.Answered.{move_of, if_moved, told_as, refused_as}
