@@ -4,6 +4,7 @@ use erlay_base::{MemSink, MemSource};
 use erlay_cli::exit_code;
 use std::alloc::{AllocError, Global};
 use std::io::{Error, ErrorKind};
+use std::process::Abort;
 use std::test::Fail;
 
 /// How many bytes a call moves at most, and the number of the read and of the write that fails, 0 for none.
@@ -54,7 +55,7 @@ fn outcome(
 /// Words and an input, and what they lead to: an exit code and the bytes that are written.
 type Case = (&'static str, &'static [u8], u8, &'static [u8]);
 
-const CASES: &[Case] = &[
+const SETS: &[Case] = &[
     ("make 3", b"00000001\n", 0, b"010000000100000001000000\n"),
     (
         "make 4",
@@ -225,6 +226,9 @@ const CASES: &[Case] = &[
         2,
         b"bad input 1: digit count\n",
     ),
+];
+
+const STREAMS: &[Case] = &[
     // frames as lines
     (
         "show",
@@ -325,6 +329,9 @@ const CASES: &[Case] = &[
         0,
         b"version 70016 0 1 6161616161616161616161616161616161616161616161616161 6262626262626262626262626262626262626262626262626262 5 2f65726c61793a312f -2 1\nverack\nwtxidrelay\nsendtxrcncl 1 0123456789abcdef\nreqrecon 100 8192\nsketch 03000000\nreqsketchext\nreconcildiff 1 00000001 1234abcd\ninv 5:6162636465666768696a6b6c6d6e6f707172737475767778797a303132333435\ngetdata 5:6162636465666768696a6b6c6d6e6f707172737475767778797a303132333435 1:3534333231307a797877767574737271706f6e6d6c6b6a696867666564636261\nnotfound 4278190081:3534333231307a797877767574737271706f6e6d6c6b6a696867666564636261\ntx 68656c6c6f\nping 1\npong 18446744073709551615\nother 66656566696c746572000000 0102\n",
     ),
+];
+
+const LINES: &[Case] = &[
     (
         "pack",
         b"version 70016 0 1 6161616161616161616161616161616161616161616161616161 6262626262626262626262626262626262626262626262626262 5 2f65726c61793a312f -2 1\nverack\nwtxidrelay\nsendtxrcncl 1 0123456789abcdef\nreqrecon 100 8192\nsketch 03000000\nreqsketchext\nreconcildiff 1 00000001 1234abcd\ninv 5:6162636465666768696a6b6c6d6e6f707172737475767778797a303132333435\ngetdata 5:6162636465666768696a6b6c6d6e6f707172737475767778797a303132333435 1:3534333231307a797877767574737271706f6e6d6c6b6a696867666564636261\nnotfound 4278190081:3534333231307a797877767574737271706f6e6d6c6b6a696867666564636261\ntx 68656c6c6f\nping 1\npong 18446744073709551615\nother 66656566696c746572000000 0102\n",
@@ -528,21 +535,36 @@ const CASES: &[Case] = &[
     ),
 ];
 
-#[test]
-fn words_and_inputs_have_answers(rt: HostRuntime) -> Result<(), Fail> {
-    for (words, input, code, text) in CASES {
+/// Compares the answer of each case, where streams move whole and a byte at a time.
+fn answer_each(rt: &impl Abort, alloc: Global, cases: &[Case]) -> Result<(), Fail> {
+    for (words, input, code, text) in cases {
         for cut in [1, 65536] {
             let streams = Streams {
                 cut,
                 failing_read: 0,
                 failing_write: 0,
             };
-            let (ended, wrote) = outcome(rt.alloc(), words, input, streams)?;
+            let (ended, wrote) = outcome(alloc, words, input, streams)?;
             assert_eq!(rt; wrote.as_slice(), *text, "{words}: {ended}");
             assert_eq!(rt; ended, *code, "{words}");
         }
     }
     Ok(())
+}
+
+#[test]
+fn sets_and_sketches_have_answers(rt: HostRuntime) -> Result<(), Fail> {
+    answer_each(&rt, rt.alloc(), SETS)
+}
+
+#[test]
+fn streams_have_lines(rt: HostRuntime) -> Result<(), Fail> {
+    answer_each(&rt, rt.alloc(), STREAMS)
+}
+
+#[test]
+fn lines_have_streams(rt: HostRuntime) -> Result<(), Fail> {
+    answer_each(&rt, rt.alloc(), LINES)
 }
 
 /// Words, an input, the read and the write that fails, one byte a call, an exit code and a text.
