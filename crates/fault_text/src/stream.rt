@@ -12,7 +12,7 @@ use wire_rules::{FrameFault, PayloadFault, PayloadKind};
 
 /// Why a stream has no frame. Checksums are 8 digits, in stored order.
 #[tactic(auto, unfolding(protocol_text_rules::specs::Ends::frame_fault_text))]
-fn frame_fault_text(alloc: Global, fault: &FrameFault) -> Result<String, AllocError>
+pub fn frame_fault_text(alloc: Global, fault: &FrameFault) -> Result<String, AllocError>
     ensures { IfOk result (λ text. string_bytes text ≡ ends.frame_fault_text fault.now) }
 {
     match fault {
@@ -46,7 +46,7 @@ fn payload_kind_text(kind: PayloadKind) -> &'static [u8]
 }
 
 /// Why a frame's payload is no message.
-fn payload_fault_text(alloc: Global, fault: &PayloadFault) -> Result<Vec<u8>, AllocError>
+pub fn payload_fault_text(alloc: Global, fault: &PayloadFault) -> Result<Vec<u8>, AllocError>
     ensures { IfOk result (λ text. text.items ≡ ends.payload_fault_text fault.now) }
 {
     let mut text = b"payload of ".to_vec(alloc)?;
