@@ -1,5 +1,5 @@
 -- Decimal digits, read one by one.
-use Rattle.std.proofs.Common.{◌≡◌, ℕ, ◌+◌, ◌-◌, ◌*◌, ◌<◌, ◌≤◌, nat_le, Bool, true, false, if◌then◌else◌, List, [], ◌∷◌, length, drop, get_or, Option, Some, None, refl, ap, ◌∙◌, arith, add-one, le-leb}
+use Rattle.std.proofs.Common.{◌≡◌, ℕ, ◌+◌, ◌-◌, ◌*◌, ◌<◌, ◌≤◌, nat_le, ◌&&◌, Bool, true, false, if◌then◌else◌, List, [], ◌∷◌, length, drop, get_or, Option, Some, None, refl, ap, ◌∙◌, arith, add-one, le-leb}
 use Rattle.std.specs.Prelude.{bytes_eq, option_and_then}
 use Rattle.std.specs.Fmt.{decimal}
 use Rattle.std.proofs.Math.Seq.{drop-cons}
@@ -28,21 +28,20 @@ unfolding digits_onto
 digits_onto-least [] m n e = let same : m ≡ n = cc in omega arith
 digits_onto-least (b ∷ rest) m n e = by_digit b m n rest (is_digit b) e (λ k. digits_onto-least rest (m * 10 + (b - 48)) n k)
 
--- ---- a number up to a limit
+-- ---- a number within bounds
 
-module _ (high : ℕ) (word : List ℕ) where
-  pub number_within-spelled : (n : ℕ) (written : Bool) → number_of word ≡ Some n → n ≤ high → bytes_eq (decimal n) word ≡ written → number_within 0 high word ≡ (if written then Some n else None)
-  number_within-spelled n written is small e =
-      let low : nat_le 0 n ≡ true = le-leb 0 n (omega arith) in
-      ap (option_and_then (bounded 0 high word)) is
-      ∙ (rw (low, le-leb n high small, e) refl)
+module _ (low high : ℕ) (word : List ℕ) where
+  pub number_within-spelled : (n : ℕ) (from written : Bool) → number_of word ≡ Some n → n ≤ high → nat_le low n ≡ from → bytes_eq (decimal n) word ≡ written → number_within low high word ≡ (if from && written then Some n else None)
+  number_within-spelled n true written is small above e = ap (option_and_then (bounded low high word)) is ∙ (rw (above, le-leb n high small, e) refl)
+  number_within-spelled n false written is small below e = ap (option_and_then (bounded low high word)) is ∙ (rw (below) refl)
 
-  pub number_within-none : ((n : ℕ) → number_of word ≡ Some n → high < n) → number_within 0 high word ≡ None
+  pub number_within-none : ((n : ℕ) → number_of word ≡ Some n → high < n) → number_within low high word ≡ None
   number_within-none large = by (number_of word) refl
     where
-      by : (o : Option ℕ) → number_of word ≡ o → number_within 0 high word ≡ None
-      by None e = ap (option_and_then (bounded 0 high word)) e
-      by (Some n) e =
-          let low : nat_le 0 n ≡ true = le-leb 0 n (omega arith) in
-          let above : nat_le n high ≡ false = lt-leb n high (large n e) in
-          ap (option_and_then (bounded 0 high word)) e ∙ (rw (low, above) refl)
+      by_bounds : (n : ℕ) (from : Bool) → nat_le low n ≡ from → high < n → bounded low high word n ≡ None
+      by_bounds n true above past = let beyond : nat_le n high ≡ false = lt-leb n high past in rw (above, beyond) refl
+      by_bounds n false below past = rw (below) refl
+
+      by : (o : Option ℕ) → number_of word ≡ o → number_within low high word ≡ None
+      by None e = ap (option_and_then (bounded low high word)) e
+      by (Some n) e = ap (option_and_then (bounded low high word)) e ∙ by_bounds n (nat_le low n) refl (large n e)

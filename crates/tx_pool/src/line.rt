@@ -15,7 +15,7 @@ use std::alloc::Global;
 
 /// Why a line was not read.
 #[derive(Clone, Copy, Debug, PartialEq, Eq)]
-pub(crate) enum LineStop {
+pub enum LineStop {
     /// What is wrong with it.
     Faulty(Kind),
     /// Memory ran out.
@@ -35,7 +35,7 @@ impl From<OutOfMemory> for LineStop {
 
 impl LineStop {
     /// The same of a text whose line with this number it is.
-    pub(crate) fn at(self, number: u64) -> ReadStop
+    pub fn at(self, number: u64) -> ReadStop
         ensures { result ≡ stop_at number self }
     {
         match self {
@@ -72,8 +72,8 @@ pub(crate) fn id_in(line: &[u8]) -> Result<Hash32, Kind>
     }
 }
 
-/// The transaction that digits spell.
-pub(crate) fn tx_in(alloc: Global, digits: &[u8]) -> Result<Bytes, LineStop>
+/// The transaction that digits of either case spell, two digits a byte.
+pub fn tx_in(alloc: Global, digits: &[u8]) -> Result<Bytes, LineStop>
     ensures read { IsLineOutcome (λ tx. tx) result (file.tx_in digits.now) }
     ensures sized { 0 < length digits.now → IfOk result (λ tx. IsTrue (is_tx_length (length tx))) }
 {

@@ -1,11 +1,10 @@
 use Rattle.std.proofs.Common.{◌≡◌, ◌≤◌, drop}
 use Rattle.line_rules.specs.Numbers.{digits_onto}
-use Rattle.pool_rules.specs.declared.limits.TheConstants.{POOL_LIMIT}
-use Rattle.tx_pool.proofs.heading.digits_of.Given as goal
+use Rattle.tx_pool.proofs.number.digits_of.Given as goal
 
 -- the digits that are left, behind the number so far
 abbrev pub invariant-loop-digit : goal.invariant-loop-digit
 invariant-loop-digit l = record {
   same : digits_onto 0 l.word ≡ digits_onto l.number (drop l.digit-index l.word);
-  small : l.number ≤ POOL_LIMIT;
+  small : l.number ≤ l.high;
 }
