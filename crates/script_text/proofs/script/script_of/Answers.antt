@@ -1,0 +1,16 @@
+use Rattle.std.proofs.Common.{Vec, Global, List, [], subst, sym, ap, ◌∙◌, arith}
+use Rattle.line_rules.specs.Lines.{lines_of}
+use Rattle.line_rules.specs.Reading.{line_fold}
+use Rattle.line_text.specs.Gives.{IsOutcome}
+use Rattle.pair_rules.specs.declared.event.Event.{Event}
+use Rattle.protocol_text_rules.specs.Scripts.{script_step}
+use Rattle.script_text.proofs.Scripts.{events_of_lines-few, events_of_lines-many}
+use Rattle.script_text.proofs.script.script_of.Goals as goal
+
+pub returns-then-lines : goal.returns-then-lines
+returns-then-lines c = events_of_lines-many c.count-lines.result (lines_of c.args.text.now) c.count-lines.ensures (omega (arith, c.if-lines.true))
+
+pub returns : goal.returns
+returns c =
+    let few = events_of_lines-few c.count-lines.result (lines_of c.args.text.now) c.count-lines.ensures (omega (arith, c.if-lines.false)) in
+    subst (IsOutcome {A = Vec Event Global} {B = List Event} (λ events. events.items) c.events_of.result) (ap (line_fold script_step []) c.of.ensures ∙ sym few) c.events_of.ensures
