@@ -1,6 +1,7 @@
 //! Scripts made from a number.
 
 ghost use Rattle.std.specs.Prelude.{◌≡◌, ◌/◌, ◌^◌, ◌++◌, IfOk, OnOk};
+ghost use Rattle.pair_rules.specs.World.{IsScript};
 ghost use Rattle.protocol_text_rules.specs.Generator as generator;
 ghost use Rattle.protocol_text_rules.specs.Generator.{additions_by, generated_rounds};
 
@@ -12,7 +13,8 @@ use std::alloc::Global;
 /// The script of a number `n`: `n` transactions of 16 bytes that go to a, to b or to both, and a round; one more
 /// transaction, which comes to a during the round; and another round.
 pub fn generated_script(alloc: Global, n: u64) -> Result<Vec<Event>, OutOfMemory>
-    ensures { IfOk result (λ events. events.items ≡ generator.generated_script n) }
+    ensures made { IfOk result (λ events. events.items ≡ generator.generated_script n) }
+    ensures sound { IfOk result (λ events. IsScript events.items) }
 {
     let mut events = Vec::new(alloc);
     let mut number = n;
