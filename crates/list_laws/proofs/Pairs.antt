@@ -1,8 +1,8 @@
 -- What holds of each two items of a list, in whatever order.
-use Rattle.std.proofs.Common.{◌≡◌, ◌≢◌, ℕ, ◌<◌, ◌≤◌, List, length, map, get_or, refl, sym, ap, ◌∙◌, arith, subst, ◌⊎◌, inl, inr, ⊎_elim}
+use Rattle.std.proofs.Common.{◌≡◌, ◌≢◌, ℕ, ◌+◌, ◌<◌, ◌≤◌, List, length, map, get_or, refl, sym, ap, ◌∙◌, arith, subst, ◌⊎◌, inl, inr, ⊎_elim}
 use Rattle.std.specs.List.{AllPairs, swap}
-use Rattle.std.specs.List.Sorted.{IsPermutation}
-use Rattle.std.proofs.lemmas.List.{length-map, get_or-map}
+use Rattle.std.specs.List.Sorted.{IsPermutation, IsNonDecreasing}
+use Rattle.std.proofs.lemmas.List.{length-map, get_or-map, get_or_default}
 use Rattle.std.proofs.lemmas.List.Edits.{Swapped, length-swap, swapped_from_swap}
 use Rattle.std.proofs.lemmas.Bool.{cases_eq, cases_lt}
 use Rattle.std.proofs.lemmas.List.Sorted.{IsPermutation-keeps}
@@ -50,3 +50,12 @@ AreDistinct-from_map f xs distinct i j d before j_in same =
     let j_there : j < length (map f xs) = rw length-map j_in in
     let i_in : i < length xs = omega arith in
     distinct i j (f d) before j_there (get_or-map f xs i d (f d) i_in ∙ ap f same ∙ sym (get_or-map f xs j d (f d) j_in))
+
+-- numbers in ascending order differ where no two neighbours are equal
+pub distinct_from_neighbours : (xs : List ℕ) → IsNonDecreasing xs → ((k : ℕ) → k + 1 < length xs → get_or xs k 0 ≢ get_or xs (k + 1) 0) → AreDistinct xs
+distinct_from_neighbours xs up apart i j d before within same =
+    let next : get_or xs i d ≤ get_or xs (i + 1) d = up i (i + 1) d (omega arith) (omega arith) in
+    let far : get_or xs (i + 1) d ≤ get_or xs j d = up (i + 1) j d (omega arith) within in
+    let at_i = get_or_default xs i d 0 (omega arith) in
+    let at_next = get_or_default xs (i + 1) d 0 (omega arith) in
+    apart i (omega arith) (let level : get_or xs i 0 ≡ get_or xs (i + 1) 0 = omega arith in level)

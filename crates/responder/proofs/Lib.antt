@@ -1,3 +1,4 @@
 pub mod AskFaults
 pub mod Portions
+pub mod SoundAsks
 pub mod Steps

@@ -1,5 +1,5 @@
 use Rattle.std.proofs.Common.{arith, rules}
-use Rattle.erlay_c.proofs.Sets.{distinct_from_neighbours}
+use Rattle.list_laws.proofs.Pairs.{distinct_from_neighbours}
 use Rattle.erlay_c.proofs.set.are_distinct_in_order.Goals as goal
 
 pub returns : goal.returns

@@ -5,7 +5,7 @@ use Rattle.std.specs.List.{list_any}
 use Rattle.std.proofs.lemmas.Bool.{not-true, not-false}
 use Rattle.pool_rules.specs.Snapshots.{sketched_shorts}
 use Rattle.responder.proofs.AskFaults.{unknown, repeated, passed, all_passed}
-use Rattle.responder.proofs.asks.check_asks.Goals as goal
+use Rattle.responder.proofs.asks.check_in_order.Goals as goal
 
 pub returns-then-not-has_sketched-clause-refused : goal.returns-then-not-has_sketched-clause-refused
 returns-then-not-has_sketched-clause-refused g c =
