@@ -2,9 +2,9 @@
 
 ghost use Rattle.std.specs.Prelude.{◌≡◌, ℕ, ◌+◌, ◌<◌, ◌≤◌, ◌^◌, ◌==◌, [], ◌∷◌, ◌++◌, List, false, length, map, filter, find, Some, IfOk, OnErr, IfSome, option_map, if◌then◌else◌, not, ◌||◌};
 ghost use Rattle.std.specs.List.{list_any};
+ghost use Rattle.std.specs.List.Sorted.{IsNonDecreasing};
 ghost use Rattle.std.specs.Ordering.{nat_cmp};
 ghost use Rattle.std.specs.BTreeMap.{get};
-ghost use Rattle.std.specs.BTreeSet.{contains};
 ghost use Rattle.pool_rules.specs.Pools.{is_listed, is_same_id};
 ghost use Rattle.pool_rules.specs.Snapshots.{Member, IsSet, ids_of, without_member, is_single, sketched_shorts, colliding, id_of_short};
 ghost use Rattle.pool_rules.specs.declared.limits.TheConstants.{POOL_LIMIT};
@@ -14,7 +14,7 @@ ghost use Rattle.recon_set.specs.Members.{HaveElements};
 use base_types::{Hash32, Hashes, OutOfMemory, Shorts};
 use id_list::IdList;
 use std::alloc::Global;
-use std::collections::{BTreeMap, BTreeSet};
+use std::collections::BTreeMap;
 use std::marker::Model;
 
 /// The members with one short id: how many, and the exclusive or of their places.
@@ -157,20 +157,23 @@ impl Members {
         Ok(Hashes::from_vec(ids))
     }
 
-    /// Whether a short id is among these, or isn't alone.
-    fn is_announced(&self, named: &BTreeSet<u32>, short: u32) -> bool
-        ensures { result ≡ (not (is_single self.now short) || contains nat_cmp named.now short) }
+    /// Whether a short id is among these in ascending order, or isn't alone.
+    fn is_announced(&self, sorted: &[u32], short: u32) -> bool
+        requires { IsNonDecreasing sorted.now }
+        ensures { result ≡ (list_any (λ other. other == short) sorted.now || not (is_single self.now short)) }
     {
-        !self.is_single(short) || named.contains(&short)
+        is_among(sorted, short) || !self.is_single(short)
     }
 
-    /// The ids of the members whose short ids are among these, and of those that aren't alone with theirs, in order.
-    pub(crate) fn announced(&self, named: &BTreeSet<u32>) -> Result<Hashes, OutOfMemory>
-        ensures { IfOk result (λ ids. ids ≡ ids_of (filter (λ m. not (is_single self.now m.short) || contains nat_cmp named.now m.short) self.now)) }
+    /// The ids of the members whose short ids are among these in ascending order, and of those that aren't alone with
+    /// theirs, in order.
+    pub(crate) fn announced(&self, sorted: &[u32]) -> Result<Hashes, OutOfMemory>
+        requires { IsNonDecreasing sorted.now }
+        ensures { IfOk result (λ ids. ids ≡ ids_of (filter (λ m. list_any (λ other. other == m.short) sorted.now || not (is_single self.now m.short)) self.now)) }
     {
         let mut ids = Vec::new(self.alloc);
         for entry in self.list.iter() {
-            if self.is_announced(named, entry.value) {
+            if self.is_announced(sorted, entry.value) {
                 ids.push(entry.id)?;
             }
         }
@@ -205,6 +208,14 @@ impl Members {
         take_place(&mut self.groups, short, place);
         Some(short)
     }
+}
+
+/// Whether a number is among these in ascending order.
+fn is_among(sorted: &[u32], number: u32) -> bool
+    requires { IsNonDecreasing sorted.now }
+    ensures { result ≡ list_any (λ other. other == number) sorted.now }
+{
+    sorted.binary_search(&number).is_ok()
 }
 
 /// A group with one more member, at this place.

@@ -2,8 +2,6 @@
 
 ghost use Rattle.std.specs.Prelude.{◌≡◌, ℕ, ◌+◌, ◌<◌, ◌≤◌, ◌++◌, ◌∷◌, [], true, false, nat_lt, length, map, filter, find, replicate, IfOk, IfErr, OnOk, OnErr, Err, option_map, is_some, ◌==◌};
 ghost use Rattle.std.specs.List.{AllByRecursion, list_any};
-ghost use Rattle.std.specs.Ordering.{nat_cmp};
-ghost use Rattle.std.specs.BTreeSet.{IsFromIterResult};
 ghost use Rattle.sketch_rules.specs.Sketches.{IsCapacity};
 ghost use Rattle.sketch_rules.specs.declared.limits.TheConstants.{MAX_CAPACITY};
 ghost use Rattle.sketch_core.specs.Refusals.{IsRefusal};
@@ -22,7 +20,6 @@ use field_core::Field;
 use sketch_core::{Sketch, SketchFault};
 use sketch_rules::MAX_CAPACITY;
 use std::alloc::Global;
-use std::collections::BTreeSet;
 use std::marker::Model;
 
 /// The ids and short ids that a set had when a round took them, in its order. A contract sees its members, and whether
@@ -138,8 +135,9 @@ impl<F: Field> Snapshot<F> {
     pub fn announced(&self, shorts: &[u32]) -> Result<Hashes, OutOfMemory>
         ensures { IfOk result (λ ids. ids ≡ announced_ids self.now.members shorts.now) }
     {
-        let named = set_of(self.members.allocator(), shorts)?;
-        self.members.announced(&named)
+        let mut sorted = shorts.to_vec(self.members.allocator())?;
+        sorted.sort_unstable();
+        self.members.announced(sorted.as_slice())
     }
 
     /// The id of a sketched short id.
@@ -232,13 +230,6 @@ impl<F: Field> Snapshot<F> {
         update(self.sums.as_mut_slice(), short, was_single, is_single);
         true
     }
-}
-
-/// The set of these short ids.
-fn set_of(alloc: Global, shorts: &[u32]) -> Result<BTreeSet<u32>, OutOfMemory>
-    ensures { IfOk result (IsFromIterResult nat_cmp shorts.now) }
-{
-    Ok(shorts.iter().copied().collect(alloc)?)
 }
 
 /// As many zeros.
