@@ -56,7 +56,7 @@ module _ {A : Type 0} (ops : Ops A) where
 
   -- ---- one part of the elements after the other
 
-  power_sum-append : IsRing ops → (k : ℕ) (xs ys : List A) → power_sum ops k (xs ++ ys) ≡ ops.plus (power_sum ops k xs) (power_sum ops k ys)
+  pub power_sum-append : IsRing ops → (k : ℕ) (xs ys : List A) → power_sum ops k (xs ++ ys) ≡ ops.plus (power_sum ops k xs) (power_sum ops k ys)
   unfolding power_sum
   power_sum-append ring k [] ys = sym (zero_plus ops ring (power_sum ops k ys))
   power_sum-append ring k (x ∷ xs) ys = ap (ops.plus (power ops x k)) (power_sum-append ring k xs ys) ∙ sym (ring.plus_assoc (power ops x k) (power_sum ops k xs) (power_sum ops k ys))

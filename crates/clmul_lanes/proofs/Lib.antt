@@ -3,6 +3,7 @@ pub mod Blocks
 pub mod ByteUp
 pub mod Coefficients
 pub mod FractionSteps
+pub mod GatheredSums
 pub mod FourLanes
 pub mod LaneLists
 pub mod LaneProducts

@@ -4,3 +4,4 @@ pub mod Planes
 pub mod Tables
 pub mod Fractions
 pub mod Rows
+pub mod NibbleValues

@@ -9,6 +9,7 @@ ghost use Rattle.clmul_lanes.specs.Rows.{AreRows};
 ghost use Rattle.clmul_lanes.specs.Fractions.{IsLocator, IsNumerator, IsLaterDenominator};
 
 use crate::Lane32;
+use crate::gathered_sums::add_gathered;
 use crate::rows::{Row, Rows, fill_rows, product_at};
 use crate::small_sums::{add_each, add_four_at_a_time};
 use field_core::Field;
@@ -22,6 +23,12 @@ const FRACTIONS_PAY_FROM: usize = 16;
 /// From how many items on fractions are worth making.
 const LISTS_PAY_FROM: usize = 24;
 
+/// How many sums are gathered at once.
+const GATHERED: usize = 8;
+
+/// From how many elements on gathering pays.
+const GATHERING_PAYS_FROM: usize = 512;
+
 /// The coefficients of a product of factors `1 + e z`, but for the constant one, which is 1.
 type Locator = [Lane32; 32];
 
@@ -32,7 +39,9 @@ type Numerator = [Lane32; 33];
 pub fn add_power_sums(acc: &mut [Lane32], elements: &[Lane32])
     ensures { acc.new ≡ sums_of_both ops acc.old (odd_power_sums ops elements.now 0 (length acc.old)) }
 {
-    if acc.len() < LISTS_PAY_FROM {
+    if acc.len() <= GATHERED && elements.len() >= GATHERING_PAYS_FROM {
+        add_gathered(acc, elements)
+    } else if acc.len() < LISTS_PAY_FROM {
         add_four_at_a_time(acc, elements)
     } else {
         add_by_fractions(acc, elements)

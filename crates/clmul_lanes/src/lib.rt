@@ -4,6 +4,7 @@
 mod axpy;
 mod conjugates;
 mod fractions;
+mod gathered_sums;
 mod lane32;
 mod lane_multiples;
 mod lanes;

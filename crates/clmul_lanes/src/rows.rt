@@ -76,7 +76,7 @@ fn word_at(rows: &Rows, r: usize, j: usize) -> u32
 }
 
 /// Nibble i of `a`, where 0 is the lowest.
-fn nibble(a: u32, i: u32) -> usize
+pub(crate) fn nibble(a: u32, i: u32) -> usize
     requires { i < 8 }
     ensures value { result ≡ a / 2 ^ (4 * i) % 16 }
     ensures below { result < 16 }
