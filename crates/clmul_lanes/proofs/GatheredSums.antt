@@ -1,5 +1,5 @@
 -- Sums of products, where one factor is added up by the nibbles of the other.
-use Rattle.std.proofs.Common.{◌≡◌, ℕ, zero, suc, ◌+◌, ◌*◌, ◌/◌, ◌%◌, ◌^◌, ◌<◌, ◌≤◌, List, [], ◌∷◌, ◌++◌, length, map, get_or, set, take, replicate, refl, sym, ◌∙◌, ap, ap₂, arith, pow_mono, lit<}
+use Rattle.std.proofs.Common.{◌≡◌, ℕ, zero, suc, ◌+◌, ◌*◌, ◌/◌, ◌%◌, ◌^◌, ◌<◌, ◌≤◌, List, [], ◌∷◌, ◌++◌, length, map, get_or, set, take, replicate, refl, sym, ◌∙◌, ap, ap₂, arith}
 use Rattle.std.specs.Int.Bits.{bit_xor, xor_comm, xor_shifted}
 use Rattle.std.proofs.Math.Nat.{mod-lt, mod-one, mod-eq_of_lt, le_trans, zero-mul}
 use Rattle.std.proofs.lemmas.Nat.{pow_pos, mod-pow-add}

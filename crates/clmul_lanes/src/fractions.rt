@@ -1,4 +1,4 @@
-//! The sums of the odd powers of many elements, as the terms of fractions: 32 elements share one.
+//! The sums of the odd powers of many elements, by the way that pays, and as the terms of fractions: 32 elements share one.
 
 ghost use Rattle.std.specs.Prelude.{◌≡◌, ℕ, suc, ◌+◌, ◌*◌, ◌<◌, ◌≤◌, List, [], ◌∷◌, length, slice_index, slice_index_or};
 ghost use Rattle.field_rules.specs.Fields.{with_multiple};
@@ -23,8 +23,10 @@ const FRACTIONS_PAY_FROM: usize = 16;
 /// From how many items on fractions are worth making.
 const LISTS_PAY_FROM: usize = 24;
 
-/// How many sums are gathered at once.
-const GATHERED: usize = 8;
+/// From how many items on gathering pays, and up to how many there is a way to gather.
+const LEAST_GATHERED: usize = 5;
+
+const MOST_GATHERED: usize = 8;
 
 /// From how many elements on gathering pays.
 const GATHERING_PAYS_FROM: usize = 512;
@@ -39,7 +41,10 @@ type Numerator = [Lane32; 33];
 pub fn add_power_sums(acc: &mut [Lane32], elements: &[Lane32])
     ensures { acc.new ≡ sums_of_both ops acc.old (odd_power_sums ops elements.now 0 (length acc.old)) }
 {
-    if acc.len() <= GATHERED && elements.len() >= GATHERING_PAYS_FROM {
+    if acc.len() >= LEAST_GATHERED
+        && acc.len() <= MOST_GATHERED
+        && elements.len() >= GATHERING_PAYS_FROM
+    {
         add_gathered(acc, elements)
     } else if acc.len() < LISTS_PAY_FROM {
         add_four_at_a_time(acc, elements)

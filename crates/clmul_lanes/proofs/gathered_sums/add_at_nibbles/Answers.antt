@@ -1,4 +1,4 @@
-use Rattle.std.proofs.Common.{rules, ◌≡◌, ◌+◌, ◌*◌, ◌/◌, ◌%◌, ◌^◌, ap, refl, ◌∙◌, arith, length-set}
+use Rattle.std.proofs.Common.{◌≡◌, ◌+◌, ◌*◌, ◌/◌, ◌%◌, ◌^◌, ap, refl, ◌∙◌, arith, length-set}
 use Rattle.clmul_lanes.proofs.GatheredSums.{no_nibble_added, nibble_added, all_added_at}
 use Rattle.clmul_lanes.proofs.gathered_sums.add_at_nibbles.Goals as goal
 

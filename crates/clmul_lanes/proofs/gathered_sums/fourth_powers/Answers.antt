@@ -1,4 +1,4 @@
-use Rattle.std.proofs.Common.{◌≡◌, ◌≢◌, ◌<◌, length, slice_index_or, slice_set, ap, sym, ◌∙◌, arith, below_more, length-set, get_or-set_same, get_or-set_other}
+use Rattle.std.proofs.Common.{◌≡◌, ◌≢◌, slice_index_or, slice_set, ap, sym, ◌∙◌, arith, below_more, length-set, get_or-set_same, get_or-set_other}
 use Rattle.std.proofs.lemmas.List.{get_or_default}
 use Rattle.field_rules.specs.Fields.{conjugate}
 use Rattle.field_laws.proofs.Conjugates.{conjugate-runs}
