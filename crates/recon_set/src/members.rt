@@ -171,7 +171,7 @@ impl Members {
         requires { IsNonDecreasing sorted.now }
         ensures { IfOk result (λ ids. ids ≡ ids_of (filter (λ m. list_any (λ other. other == m.short) sorted.now || not (is_single self.now m.short)) self.now)) }
     {
-        let mut ids = Vec::new(self.alloc);
+        let mut ids = Vec::with_capacity(self.alloc, sorted.len().min(self.list.len()))?;
         for entry in self.list.iter() {
             if self.is_announced(sorted, entry.value) {
                 ids.push(entry.id)?;
