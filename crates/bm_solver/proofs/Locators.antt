@@ -1,5 +1,5 @@
 -- The coefficients of a recurrence, read from its monic form.
-use Rattle.std.proofs.Common.{◌≡◌, ◌≢◌, ℕ, ◌≤◌, List, [], ◌∷◌, length, drop, reverse, sym, ap, ◌∙◌, arith}
+use Rattle.std.proofs.Common.{◌≡◌, ◌≢◌, ◌≤◌, List, [], ◌∷◌, length, drop, reverse, sym, ap, ◌∙◌, arith}
 use Rattle.std.proofs.lemmas.List.{get_or-reverse, length-reverse, reverse-reverse}
 use Rattle.field_rules.specs.Ops.{Ops}
 use Rattle.poly_rules.specs.Polynomials.{coefficient, IsSamePolynomial, IsTrimmed, IsMonic, degree}
@@ -20,6 +20,10 @@ module _ {A : Type 0} (ops : Ops A) where
   -- so it is the monic form of these coefficients
   pub monic_is : (f : List A) → IsMonic ops (degree f) f → f ≡ reverse (ops.one ∷ coefficients_of f)
   monic_is f monic = sym (reverse-reverse f) ∙ ap reverse (monic_turned f monic)
+
+  -- and these coefficients are read from it
+  pub coefficients_are : (cs : List A) → coefficients_of (reverse (ops.one ∷ cs)) ≡ cs
+  coefficients_are cs = ap (drop 1) (reverse-reverse (ops.one ∷ cs))
 
   -- a trimmed list that is the same polynomial is it
   pub monic_only : (g f : List A) → ops.one ≢ ops.zero → IsTrimmed ops g → IsMonic ops (degree f) f → IsSamePolynomial ops g f → g ≡ f

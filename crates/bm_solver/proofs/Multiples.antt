@@ -1,12 +1,23 @@
--- A multiple of a polynomial, added to a part of a list of coefficients.
-use Rattle.std.proofs.Common.{◌≡◌, ℕ, ◌+◌, ◌≤◌, List, [], ◌∷◌, ◌++◌, length, take, drop, replicate, refl, sym, ap, ◌∙◌, arith, length-drop}
-use Rattle.std.proofs.lemmas.List.{take-append-drop, length-take-le, length-map}
+-- Parts of lists: a multiple of a polynomial that is added to one, and what stands in one at an index.
+use Rattle.std.proofs.Common.{◌≡◌, ℕ, ◌+◌, ◌-◌, ◌<◌, ◌≤◌, List, [], ◌∷◌, ◌++◌, length, get_or, take, drop, replicate, refl, sym, ap, ◌∙◌, arith, length-drop}
+use Rattle.std.proofs.lemmas.List.{take-append-drop, length-take-le, length-map, get_or-take, get_or-drop, get_or-append_right, get_or_append_left}
 use borrow.Rule.Slice.PartMut.{mid_of, put_mid}
 use Rattle.field_rules.specs.Ops.{Ops, IsRing}
 use Rattle.field_rules.specs.Fields.{with_multiple}
-use Rattle.poly_rules.specs.Polynomials.{sum_of, scalar_multiple}
-use Rattle.poly_laws.proofs.Sums.{sum_none}
-use Rattle.poly_laws.proofs.Division.{with_multiple-sum}
+use Rattle.poly_rules.specs.Polynomials.{coefficient, sum_of, scalar_multiple}
+use Rattle.poly_laws.proofs.Sums.{sum_none, coefficient-sum, coefficient-scalar_multiple}
+use Rattle.poly_laws.proofs.Division.{length-sum, with_multiple-sum}
+
+module _ {A : Type 0} where
+  -- what stands in a part that was written
+  pub put_mid_at : (acc part : List A) (a n j : ℕ) (d : A) → a ≤ length acc → a ≤ j → j - a < length part → get_or (put_mid a n acc part) j d ≡ get_or part (j - a) d
+  put_mid_at acc part a n j d within from lt =
+      get_or-append_right (take a acc) (part ++ drop n (drop a acc)) a j d (length-take-le a acc within) from
+      ∙ get_or_append_left part (drop n (drop a acc)) d (j - a) lt
+
+  -- and in one that is read
+  pub mid_of_at : (xs : List A) (a n i : ℕ) (d : A) → i < n → get_or (mid_of a n xs) i d ≡ get_or xs (a + i) d
+  mid_of_at xs a n i d lt = get_or-take n (drop a xs) i d lt ∙ get_or-drop a xs i d
 
 module _ {A : Type 0} (ops : Ops A) (ring : IsRing ops) where
   -- a sum with a list that begins with zeros
@@ -41,3 +52,30 @@ module _ {A : Type 0} (ops : Ops A) (ring : IsRing ops) where
 
       parts : take a acc ++ (mid_of a n acc ++ drop n (drop a acc)) ≡ acc
       parts = ap (λ z. take a acc ++ z) (take-append-drop n (drop a acc)) ∙ take-append-drop a acc
+
+  -- each item from index a on has k times the one as far behind b
+  pub multiple_at : (acc part xs : List A) (a b n m j : ℕ) (k : A) → n ≡ length acc - a → m ≡ n → b ≤ a → length xs ≡ length acc
+      → part ≡ with_multiple ops (mid_of a n acc) k (mid_of b m xs) → a ≤ j → j < length acc
+      → coefficient ops (put_mid a n acc part) j ≡ ops.plus (coefficient ops acc j) (ops.times k (coefficient ops xs (b + (j - a))))
+  multiple_at acc part xs a b n m j k count same_count below size is from lt =
+      put_mid_at acc part a n j ops.zero (omega arith) from (omega (arith, part_size))
+      ∙ ap (λ z. coefficient ops z (j - a)) sum
+      ∙ coefficient-sum ops ring (mid_of a n acc) (scalar_multiple ops k (mid_of b m xs)) (j - a)
+      ∙ ap (ops.plus (coefficient ops (mid_of a n acc) (j - a))) (coefficient-scalar_multiple ops ring k (mid_of b m xs) (j - a))
+      ∙ ap (λ z. ops.plus (coefficient ops (mid_of a n acc) (j - a)) (ops.times k z)) (mid_of_at xs b m (j - a) ops.zero (omega arith))
+      ∙ ap (λ z. ops.plus z (ops.times k (coefficient ops xs (b + (j - a))))) (mid_of_at acc a n (j - a) ops.zero (omega arith) ∙ (let here : a + (j - a) ≡ j = omega arith in ap (coefficient ops acc) here))
+    where
+      first : length (mid_of a n acc) ≡ n
+      first = length-take-le n (drop a acc) (omega (arith, length-drop a acc))
+
+      second : length (mid_of b m xs) ≡ m
+      second = length-take-le m (drop b xs) (omega (arith, length-drop b xs))
+
+      sum : part ≡ sum_of ops (mid_of a n acc) (scalar_multiple ops k (mid_of b m xs))
+      sum = is ∙ with_multiple-sum ops k (mid_of a n acc) (mid_of b m xs) (omega (arith, first, second))
+
+      part_size : length part ≡ n
+      part_size =
+          ap length sum
+          ∙ length-sum ops (mid_of a n acc) (scalar_multiple ops k (mid_of b m xs)) (omega (arith, first, second, length-map (mid_of b m xs) (ops.times k)))
+          ∙ first

@@ -1,46 +1,92 @@
 -- The steps of the search, by the numbers that the code has.
-use Rattle.std.proofs.Common.{◌≡◌, ℕ, ◌+◌, ◌-◌, ◌<◌, ◌≤◌, List, ◌++◌, length, take, drop, replicate, sym, ap, subst, ◌∙◌, arith}
+use Rattle.std.proofs.Common.{◌≡◌, ℕ, ◌+◌, ◌-◌, ◌<◌, ◌≤◌, List, [], ◌∷◌, ◌++◌, length, get_or, drop, replicate, refl, sym, ap, subst, ◌∙◌, arith}
+use Rattle.std.proofs.lemmas.List.{get_or_read_under}
 use Rattle.field_rules.specs.Ops.{Ops, IsRing}
 use Rattle.field_rules.specs.Fields.{dot_of}
-use Rattle.poly_rules.specs.Polynomials.{degree, sum_of, scalar_multiple}
-use Rattle.recurrence_laws.specs.Solving.{IsSolving}
-use Rattle.recurrence_laws.proofs.Applied.{dot_of-take}
-use Rattle.recurrence_laws.proofs.Steps.{solving_kept, solving_mended, solving_grown}
+use Rattle.poly_rules.specs.Polynomials.{coefficient, degree, sum_of, scalar_multiple}
+use Rattle.recurrence_laws.specs.Solving.{IsSolving, IsCarried}
+use Rattle.recurrence_laws.proofs.Steps.{solving_none, solving_kept, solving_mended, solving_grown}
+use Rattle.recurrence_laws.proofs.Carried.{carried_none, carried_kept, carried_mended, carried_grown}
+use Rattle.recurrence_laws.proofs.Steps as step
+use Rattle.bm_solver.specs.Searches.{IsSearching}
 
-module _ {A : Type 0} (ops : Ops A) (ring : IsRing ops) {s current saved : List A} {n : ℕ} {inverse : A} (so_far : IsSolving ops s n current saved inverse) where
-  -- size is how many coefficients there are, and the discrepancy is the sum over the window that ends at n
-  module _ {size : ℕ} {read : List A} {discrepancy : A} (size_is : size ≡ length current) (same : read ≡ current) (is : discrepancy ≡ dot_of ops read (take (n + 1 - (n - (size - 1))) (drop (n - (size - 1)) s))) where
-    -- which is that over the items from its start on
-    discrepancy_is : discrepancy ≡ dot_of ops current (drop (n - degree current) s)
-    discrepancy_is =
-        let enough : length current ≤ n + 1 - (n - (size - 1)) = omega (arith, so_far.monic.size, so_far.room) in
-        is
-        ∙ ap (λ z. dot_of ops z (take (n + 1 - (n - (size - 1))) (drop (n - (size - 1)) s))) same
-        ∙ dot_of-take ops (n + 1 - (n - (size - 1))) current (drop (n - (size - 1)) s) enough
-        ∙ ap (λ z. dot_of ops current (drop (n - (z - 1)) s)) size_is
+module _ {A : Type 0} (ops : Ops A) (ring : IsRing ops) where
+  -- before the first item
+  pub started : {s current saved r q room : List A} {inverse : A} → current ≡ ops.one ∷ [] → saved ≡ ops.one ∷ [] → inverse ≡ ops.one → r ≡ s → q ≡ s → room ≡ s
+      → IsSearching ops s 0 current saved inverse r q room
+  started {s} {current} {saved} {r} {q} {room} {inverse} is_current is_saved is_inverse is_r is_q is_room =
+      rw (is_current, is_saved, is_inverse, is_r, is_q, is_room) record {
+        within = omega arith;
+        solving = solving_none ops ring s;
+        carried = carried_none ops ring s;
+        current_size = refl;
+        saved_size = refl;
+        room_size = refl;
+      }
 
-    pub kept : discrepancy ≡ ops.zero → IsSolving ops s (n + 1) current saved inverse
-    kept none = solving_kept ops ring s current saved n inverse so_far (sym discrepancy_is ∙ none)
+module _ {A : Type 0} (ops : Ops A) (ring : IsRing ops) {s current saved r q room : List A} {n : ℕ} {inverse : A} (so_far : IsSearching ops s n current saved inverse r q room) (inside : n < length s) where
+  -- the item at n, whose discrepancy is d
+  module _ {d : A} (is : d ≡ get_or r n d) where
+    discrepancy_is : d ≡ dot_of ops current (drop (n - degree current) s)
+    discrepancy_is = get_or_read_under r n (length r) d ops.zero is (omega (arith, so_far.current_size)) refl ∙ so_far.carried.coming.each n (omega arith) inside
 
-    pub mended : {f g new : List A} {k : A} → f ≡ current → g ≡ saved → k ≡ ops.times discrepancy inverse → n - (size - 1) < size - 1
-        → new ≡ sum_of ops f (replicate (size - 1 - (n - (size - 1)) - 1) ops.zero ++ scalar_multiple ops k g)
-        → IsSolving ops s (n + 1) new saved inverse
-    mended {f} {g} {new} {k} same_f same_g is_k long new_is =
-        subst (λ z. IsSolving ops s (n + 1) z saved inverse)
-        (sym (new_is
-        ∙ ap (λ z. sum_of ops z (replicate (size - 1 - (n - (size - 1)) - 1) ops.zero ++ scalar_multiple ops k g)) same_f
-        ∙ ap (λ z. sum_of ops current (replicate (size - 1 - (n - (size - 1)) - 1) ops.zero ++ scalar_multiple ops k z)) same_g
-        ∙ ap (λ z. sum_of ops current (replicate (size - 1 - (n - (size - 1)) - 1) ops.zero ++ scalar_multiple ops z saved)) is_k
-        ∙ ap (λ z. sum_of ops current (replicate (z - 1 - (n - (z - 1)) - 1) ops.zero ++ scalar_multiple ops (ops.times discrepancy inverse) saved)) size_is))
-        (solving_mended ops ring s current saved n discrepancy inverse so_far discrepancy_is (omega arith))
+    pub kept : d ≡ ops.zero → IsSearching ops s (n + 1) current saved inverse r q room
+    kept none = record {
+      within = omega arith;
+      solving = solving_kept ops ring s current saved n inverse so_far.solving (sym discrepancy_is ∙ none);
+      carried = carried_kept ops ring s current saved r q n so_far.carried;
+      current_size = so_far.current_size;
+      saved_size = so_far.saved_size;
+      room_size = so_far.room_size;
+    }
 
-    pub grown : {new old : List A} {k next : A} → k ≡ ops.times discrepancy inverse → size - 1 ≤ n - (size - 1)
-        → new ≡ sum_of ops (replicate (n - (size - 1) - (size - 1) + 1) ops.zero ++ current) (scalar_multiple ops k saved) → old ≡ current → ops.times discrepancy next ≡ ops.one
-        → IsSolving ops s (n + 1) new old next
-    grown {new} {old} {k} {next} is_k short new_is old_is next_is =
-        subst (λ z. IsSolving ops s (n + 1) z old next)
-        (sym (new_is
-        ∙ ap (λ z. sum_of ops (replicate (n - (size - 1) - (size - 1) + 1) ops.zero ++ current) (scalar_multiple ops z saved)) is_k
-        ∙ ap (λ z. sum_of ops (replicate (n - (z - 1) - (z - 1) + 1) ops.zero ++ current) (scalar_multiple ops (ops.times discrepancy inverse) saved)) size_is))
-        (subst (λ z. IsSolving ops s (n + 1) (sum_of ops (replicate (n - degree current - degree current + 1) ops.zero ++ current) (scalar_multiple ops (ops.times discrepancy inverse) saved)) z next) (sym old_is)
-        (solving_grown ops ring s current saved n discrepancy inverse next so_far discrepancy_is (omega arith) next_is))
+    -- where size and saved_size are how many coefficients there are, and k is by how much the saved one is multiplied
+    module _ (size saved_size : ℕ) (k : A) (next : List A) (size_is : size ≡ length current) (saved_size_is : saved_size ≡ length saved) (k_is : k ≡ ops.times d inverse)
+        (next_size : length next ≡ length r)
+        (each : (j : ℕ) → n + 1 ≤ j → j < length r → coefficient ops next j ≡ ops.plus (coefficient ops r j) (ops.times k (coefficient ops q (size - 1 + (saved_size - 1) + (j - (n + 1)))))) where
+      each_by_degrees : (j : ℕ) → n + 1 ≤ j → j < length s
+          → coefficient ops next j ≡ ops.plus (coefficient ops r j) (ops.times (ops.times d inverse) (coefficient ops q (degree current + degree saved + (j - (n + 1)))))
+      each_by_degrees j from lt =
+          each j from (omega (arith, so_far.current_size))
+          ∙ ap (λ z. ops.plus (coefficient ops r j) (ops.times z (coefficient ops q (size - 1 + (saved_size - 1) + (j - (n + 1)))))) k_is
+          ∙ (let here : size - 1 + (saved_size - 1) + (j - (n + 1)) ≡ degree current + degree saved + (j - (n + 1)) = omega arith in
+          ap (λ z. ops.plus (coefficient ops r j) (ops.times (ops.times d inverse) (coefficient ops q z))) here)
+
+      pub mended : {new : List A} → n - (size - 1) < size - 1
+          → new ≡ sum_of ops current (replicate (size - 1 - (n - (size - 1)) - 1) ops.zero ++ scalar_multiple ops k saved)
+          → IsSearching ops s (n + 1) new saved inverse next q room
+      mended {new} long new_is = record {
+        within = omega arith;
+        solving = subst (λ z. IsSolving ops s (n + 1) z saved inverse) (sym new_form) (solving_mended ops ring s current saved n d inverse so_far.solving discrepancy_is (omega arith));
+        carried = subst (λ z. IsCarried ops s (n + 1) z saved next q) (sym new_form)
+            (carried_mended ops ring s current saved r q next n (ops.times d inverse) inverse so_far.solving so_far.carried each_by_degrees (omega arith));
+        current_size = next_size ∙ so_far.current_size;
+        saved_size = so_far.saved_size;
+        room_size = so_far.room_size;
+      }
+        where
+          new_form : new ≡ step.mended ops current saved n (ops.times d inverse)
+          new_form =
+              new_is
+              ∙ ap (λ z. sum_of ops current (replicate (size - 1 - (n - (size - 1)) - 1) ops.zero ++ scalar_multiple ops z saved)) k_is
+              ∙ ap (λ z. sum_of ops current (replicate (z - 1 - (n - (z - 1)) - 1) ops.zero ++ scalar_multiple ops (ops.times d inverse) saved)) size_is
+
+      pub grown : {new later : List A} {following : A} → size - 1 ≤ n - (size - 1)
+          → new ≡ sum_of ops (replicate (n - (size - 1) - (size - 1) + 1) ops.zero ++ current) (scalar_multiple ops k saved)
+          → ops.times d following ≡ ops.one → length later ≡ length r
+          → IsSearching ops s (n + 1) new current following next r later
+      grown {new} {later} {following} short new_is following_is size_of_room = record {
+        within = omega arith;
+        solving = subst (λ z. IsSolving ops s (n + 1) z current following) (sym new_form) (solving_grown ops ring s current saved n d inverse following so_far.solving discrepancy_is (omega arith) following_is);
+        carried = subst (λ z. IsCarried ops s (n + 1) z current next r) (sym new_form)
+            (carried_grown ops ring s current saved r q next n (ops.times d inverse) inverse so_far.solving so_far.carried each_by_degrees (omega arith));
+        current_size = next_size ∙ so_far.current_size;
+        saved_size = so_far.current_size;
+        room_size = size_of_room ∙ so_far.current_size;
+      }
+        where
+          new_form : new ≡ step.grown ops current saved n (ops.times d inverse)
+          new_form =
+              new_is
+              ∙ ap (λ z. sum_of ops (replicate (n - (size - 1) - (size - 1) + 1) ops.zero ++ current) (scalar_multiple ops z saved)) k_is
+              ∙ ap (λ z. sum_of ops (replicate (n - (z - 1) - (z - 1) + 1) ops.zero ++ current) (scalar_multiple ops (ops.times d inverse) saved)) size_is

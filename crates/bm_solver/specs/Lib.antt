@@ -1,1 +1,2 @@
 pub mod Locators
+pub mod Searches

@@ -1,63 +1,46 @@
-//! The search for the shortest recurrence.
+//! The search for the shortest recurrence, item by item.
 
-ghost use Rattle.std.specs.Prelude.{◌≡◌, ◌≢◌, ◌+◌, ◌*◌, ◌<◌, ◌≤◌, List, ◌∷◌, ◌++◌, length, replicate, reverse, IfOk};
-ghost use Rattle.std.specs.List.{All};
-ghost use Rattle.field_rules.specs.Lists.{AreDistinct};
-ghost use Rattle.sketch_rules.specs.PowerSums.{power_sums};
-ghost use Rattle.poly_rules.specs.Polynomials.{sum_of, scalar_multiple};
-ghost use Rattle.poly_rules.specs.Recurrences.{IsShortest};
-ghost use Rattle.poly_rules.specs.Roots.{with_roots};
-ghost use Rattle.recurrence_laws.specs.Solving.{IsSolving};
+ghost use Rattle.std.specs.Prelude.{◌≡◌, ℕ, ◌+◌, ◌-◌, ◌<◌, ◌≤◌, ◌++◌, length, replicate, IfOk};
+ghost use Rattle.poly_rules.specs.Polynomials.{coefficient, sum_of, scalar_multiple};
+ghost use Rattle.bm_solver.specs.Searches.{IsSearching};
 
-use crate::Locator;
+use crate::candidate::Candidate;
 use base_types::OutOfMemory;
 use field_core::Field;
 use std::alloc::Global;
 use std::mem;
 
-/// A shortest recurrence of `sums`: it holds of all of them, and none shorter does. The algorithm of Berlekamp, in the
-/// form of Massey 1969. Of the sums of a set of nonzero elements, at least twice as many as it has members, it is as long
-/// as the set is large, and its monic polynomial is the product of `z + e` over the members e.
-pub fn shortest<F: Field>(alloc: Global, sums: &[F]) -> Result<Locator<F>, OutOfMemory>
-    ensures shortest { IfOk result (λ locator. IsShortest F.ops locator sums.now) }
-    ensures within { IfOk result (λ locator. length locator ≤ length sums.now) }
-    ensures set { (es : List F) → AreDistinct es → All (λ e. e ≢ F.ops.zero) es → 2 * length es ≤ length sums.now
-        → sums.now ≡ power_sums F.ops es 1 (length sums.now)
-        → IfOk result (λ locator. (length locator ≡ length es) × (reverse (F.ops.one ∷ locator) ≡ with_roots F.ops es)) }
-{
-    let mut solver = Solver::new(alloc, sums.len())?;
-    for n in 0..sums.len() {
-        solver.read(sums, n)?;
-    }
-    Locator::from_monic(solver.current, solver.spare)
-}
-
-/// What is kept of the items read so far. Recurrences stand in their monic form, `c_L, .., c_1, 1`.
+/// What is kept of the items read so far.
 #[derive(Drop)]
-struct Solver<F: Field> {
-    /// A shortest recurrence of the items.
-    current: Vec<F>,
+pub struct Solver<'a, F: Field> {
+    pub items: &'a [F],
+    /// How many of them are read.
+    pub read: usize,
+    /// A shortest recurrence of these.
+    pub current: Candidate<F>,
     /// What it was before it last grew, when it failed at an item.
-    saved: Vec<F>,
+    pub saved: Candidate<F>,
     /// Room for the next that is longer.
-    spare: Vec<F>,
+    pub spare: Candidate<F>,
     /// The inverse of the discrepancy of `saved` where it failed.
-    inverse: F,
+    pub inverse: F,
 }
 
-impl<F: Field> Solver<F> {
-    /// Nothing is read yet. There is room for the recurrences of `len` items, so that no later call takes memory.
-    fn new(alloc: Global, len: usize) -> Result<Solver<F>, OutOfMemory>
-        ensures { IfOk result (λ solver. (s : List F)
-            → IsSolving F.ops s 0 solver.current.items solver.saved.items solver.inverse) }
+impl<'a, F: Field> Solver<'a, F> {
+    /// Nothing is read yet.
+    pub fn new(alloc: Global, items: &'a [F]) -> Result<Solver<'a, F>, OutOfMemory>
+        ensures items { IfOk result (λ solver. solver.items.now ≡ items.now) }
+        ensures read { IfOk result (λ solver. solver.read ≡ 0) }
+        ensures so_far { IfOk result (λ solver. IsSearching F.ops items.now 0
+            solver.current.monic.items solver.saved.monic.items solver.inverse
+            solver.current.discrepancies.items solver.saved.discrepancies.items solver.spare.discrepancies.items) }
     {
-        let room = len.saturating_add(1);
-        let mut current = Vec::with_capacity(alloc, room)?;
-        let mut saved = Vec::with_capacity(alloc, room)?;
-        let spare = Vec::with_capacity(alloc, room)?;
-        current.push(F::ONE)?;
-        saved.push(F::ONE)?;
+        let current = Candidate::first(alloc, items)?;
+        let saved = Candidate::first(alloc, items)?;
+        let spare = Candidate::first(alloc, items)?;
         Ok(Solver {
+            items,
+            read: 0,
             current,
             saved,
             spare,
@@ -65,57 +48,61 @@ impl<F: Field> Solver<F> {
         })
     }
 
-    /// Reads the item at index n. The discrepancy is what it and the current recurrence's foretelling differ by.
-    fn read(&mut self, sums: &[F], n: usize) -> Result<(), OutOfMemory>
-        requires inside { n < length sums.now }
-        requires so_far { IsSolving F.ops sums.now n
-            self.old.current.items self.old.saved.items self.old.inverse }
-        ensures { IfOk result (λ _. IsSolving F.ops sums.now (n + 1)
-            self.new.current.items self.new.saved.items self.new.inverse) }
+    /// Reads the next item. The discrepancies of all items behind it are carried along, so that an item takes a multiple
+    /// of a list and no sum of products.
+    pub fn read_next(&mut self) -> Result<(), OutOfMemory>
+        requires inside { self.old.read < length self.old.items.now }
+        requires so_far { IsSearching F.ops self.old.items.now self.old.read
+            self.old.current.monic.items self.old.saved.monic.items self.old.inverse
+            self.old.current.discrepancies.items self.old.saved.discrepancies.items self.old.spare.discrepancies.items }
+        ensures items { self.new.items.now ≡ self.old.items.now }
+        ensures read { self.new.read ≡ self.old.read + 1 }
+        ensures so_far { IfOk result (λ _. IsSearching F.ops self.old.items.now (self.old.read + 1)
+            self.new.current.monic.items self.new.saved.monic.items self.new.inverse
+            self.new.current.discrepancies.items self.new.saved.discrepancies.items self.new.spare.discrepancies.items) }
     {
-        let length = self.current.len() - 1;
-        let start = n - length;
-        let discrepancy = F::dot(self.current.as_slice(), &sums[start..=n]);
+        let n = self.read;
+        self.read = n + 1;
+        let discrepancy = self.current.discrepancies[n];
         if discrepancy == F::ZERO {
             return Ok(());
         }
+        let length = self.current.monic.len() - 1;
+        let start = n - length;
         let factor = discrepancy.mul(self.inverse);
+        let behind = length + (self.saved.monic.len() - 1);
         if start < length {
             let shift = length - start - 1;
-            add_multiple(
-                self.current.as_mut_slice(),
-                shift,
-                factor,
-                self.saved.as_slice(),
-            );
+            self.current.add(factor, &self.saved, shift, n + 1, behind);
         } else {
-            self.grow(start - length + 1, factor)?;
+            self.grow(start - length + 1, factor, behind)?;
             self.inverse = discrepancy.inv();
         }
         Ok(())
     }
 
-    /// Multiplies the current recurrence by `x ^ shift`, adds `k` times the saved one, and saves what it was.
-    fn grow(&mut self, shift: usize, k: F) -> Result<(), OutOfMemory>
-        requires { length self.old.saved.items ≤ shift + length self.old.current.items }
-        ensures current { IfOk result (λ _. self.new.current.items
-            ≡ sum_of F.ops (replicate shift F.ops.zero ++ self.old.current.items) (scalar_multiple F.ops k self.old.saved.items)) }
-        ensures saved { IfOk result (λ _. self.new.saved.items ≡ self.old.current.items) }
+    /// Multiplies the current recurrence by `x ^ shift`, adds `k` times the saved one, and saves what it was. `behind` is
+    /// the index behind the item where the saved one failed.
+    fn grow(&mut self, shift: usize, k: F, behind: usize) -> Result<(), OutOfMemory>
+        requires coefficients { length self.old.saved.monic.items ≤ shift + length self.old.current.monic.items }
+        requires next { (behind ≤ self.old.read) × (self.old.read ≤ length self.old.current.discrepancies.items) }
+        requires saved_size { length self.old.saved.discrepancies.items ≡ length self.old.current.discrepancies.items }
+        requires spare_size { length self.old.spare.discrepancies.items ≡ length self.old.current.discrepancies.items }
+        ensures items { self.new.items.now ≡ self.old.items.now }
+        ensures read { self.new.read ≡ self.old.read }
+        ensures monic { IfOk result (λ _. self.new.current.monic.items
+            ≡ sum_of F.ops (replicate shift F.ops.zero ++ self.old.current.monic.items) (scalar_multiple F.ops k self.old.saved.monic.items)) }
+        ensures discrepancies { IfOk result (λ _. (j : ℕ) → self.old.read ≤ j → j < length self.old.current.discrepancies.items
+            → coefficient F.ops self.new.current.discrepancies.items j ≡ F.ops.plus (coefficient F.ops self.old.current.discrepancies.items j)
+            (F.ops.times k (coefficient F.ops self.old.saved.discrepancies.items (behind + (j - self.old.read))))) }
+        ensures saved { IfOk result (λ _. self.new.saved ≡ self.old.current) }
+        ensures current_size { IfOk result (λ _. length self.new.current.discrepancies.items ≡ length self.old.current.discrepancies.items) }
+        ensures room_size { IfOk result (λ _. length self.new.spare.discrepancies.items ≡ length self.old.current.discrepancies.items) }
     {
-        self.spare.clear();
-        self.spare.resize(shift, F::ZERO)?;
-        self.spare.extend_from_slice(self.current.as_slice())?;
-        add_multiple(self.spare.as_mut_slice(), 0, k, self.saved.as_slice());
+        self.spare.set_raised(&self.current, shift, self.read)?;
+        self.spare.add(k, &self.saved, 0, self.read, behind);
         mem::swap(&mut self.saved, &mut self.current);
         mem::swap(&mut self.current, &mut self.spare);
         Ok(())
     }
-}
-
-/// Adds `k` times `f`, multiplied by `x ^ shift`.
-fn add_multiple<F: Field>(acc: &mut [F], shift: usize, k: F, f: &[F])
-    requires { shift + length f.now ≤ length acc.old }
-    ensures { acc.new ≡ sum_of F.ops acc.old (replicate shift F.ops.zero ++ scalar_multiple F.ops k f.now) }
-{
-    F::axpy(&mut acc[shift..shift + f.len()], k, f);
 }

@@ -3,3 +3,4 @@ pub mod Monic
 pub mod Massey
 pub mod Shortest
 pub mod Steps
+pub mod Carried

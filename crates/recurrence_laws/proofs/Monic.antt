@@ -26,7 +26,8 @@ module _ {A : Type 0} (ops : Ops A) (ring : IsRing ops) where
       ap (ops.plus (ops.times a x)) (dot_of-append f g s)
       ∙ sym (ring.plus_assoc (ops.times a x) (dot_of ops f s) (dot_of ops g (drop (length f) s)))
 
-  dot_of-one : (i : ℕ) (s : List A) → dot_of ops (ops.one ∷ []) (drop i s) ≡ coefficient ops s i
+  -- a 1 alone meets the item itself
+  pub dot_of-one : (i : ℕ) (s : List A) → dot_of ops (ops.one ∷ []) (drop i s) ≡ coefficient ops s i
   unfolding dot_of
   dot_of-one zero [] = refl
   dot_of-one zero (x ∷ s) = ring.plus_zero (ops.times ops.one x) ∙ one_times ops ring x

@@ -1,5 +1,6 @@
 -- The search ends with a shortest recurrence.
-use Rattle.std.proofs.Common.{◌≡◌, ◌≢◌, ◌⊎◌, inl, inr, ℕ, ◌+◌, ◌-◌, ◌<◌, ◌≤◌, List, ◌∷◌, length, drop, reverse, sym, ap, ◌∙◌, arith}
+use Rattle.std.proofs.Common.{◌≡◌, ◌≢◌, ◌⊎◌, inl, inr, ℕ, ◌+◌, ◌-◌, ◌<◌, ◌≤◌, List, ◌∷◌, length, take, drop, reverse, sym, ap, subst, ◌∙◌, arith}
+use Rattle.std.proofs.lemmas.List.{length-take-le}
 use Rattle.field_rules.specs.Ops.{Ops, IsRing}
 use Rattle.field_rules.specs.Fields.{dot_of}
 use Rattle.poly_rules.specs.Polynomials.{degree}
@@ -7,6 +8,7 @@ use Rattle.poly_rules.specs.Recurrences.{IsRecurrence, IsShortest}
 use Rattle.field_laws.proofs.RingFacts.{zero_times}
 use Rattle.recurrence_laws.specs.Solving.{IsSolving}
 use Rattle.recurrence_laws.proofs.Monic.{monic_form, monic_from_recurs, recurs_from_monic}
+use Rattle.recurrence_laws.proofs.Applied.{dot_of-prefix}
 use Rattle.recurrence_laws.proofs.Massey.{holds_on}
 
 module _ {A : Type 0} (ops : Ops A) where
@@ -43,3 +45,21 @@ module _ {A : Type 0} (ops : Ops A) (ring : IsRing ops) where
               holds_on ops ring saved (reverse (ops.one ∷ ds)) s (length ds) index (monic_form ops ring ds)
               (λ i lt. so_far.saved_holds (index + i) (omega (arith, same_degree)))
               (λ i lt. monic_from_recurs ops ring ds s recurs (index + i) (omega (arith, same_degree, so_far.room)))
+
+  -- what is kept speaks of the first n items alone
+  solving_front : (s current saved : List A) (n : ℕ) (inverse : A) → IsSolving ops s n current saved inverse → IsSolving ops (take n s) n current saved inverse
+  solving_front s current saved n inverse h = record {
+    monic = h.monic;
+    holds = λ k lt. dot_of-prefix ops k n current s (omega (arith, h.monic.size)) ∙ h.holds k lt;
+    some = h.some;
+    room = h.room;
+    saved_holds = λ k lt. dot_of-prefix ops k n saved s (omega (arith, h.room, h.some)) ∙ h.saved_holds k lt;
+    saved_fails = λ k e. ap (λ z. ops.times z inverse) (dot_of-prefix ops k n saved s (omega (arith, h.room, h.some))) ∙ h.saved_fails k e;
+  }
+
+  -- so after the first n items the search has a shortest recurrence of these
+  pub solved_front : (s current saved cs : List A) (n : ℕ) (inverse : A) → ops.one ≢ ops.zero → n ≤ length s → IsSolving ops s n current saved inverse → current ≡ reverse (ops.one ∷ cs) → IsShortest ops cs (take n s)
+  solved_front s current saved cs n inverse apart le h is =
+      solved (take n s) current saved cs inverse apart
+      (let size : n ≡ length (take n s) = sym (length-take-le n s le) in subst (λ z. IsSolving ops (take n s) z current saved inverse) size (solving_front s current saved n inverse h))
+      is

@@ -10,11 +10,20 @@ use Rattle.poly_laws.proofs.Division.{length-sum}
 use Rattle.recurrence_laws.specs.Solving.{IsSolving}
 use Rattle.recurrence_laws.proofs.Applied.{dot_of-sum, dot_of-scalar_multiple, dot_of-shifts}
 
+module _ {A : Type 0} (ops : Ops A) where
+  -- the current one and k times the saved one, put further up so that both end at one index
+  abbrev pub mended : List A → List A → ℕ → A → List A
+  mended current saved n k = sum_of ops current (replicate (degree current - (n - degree current) - 1) ops.zero ++ scalar_multiple ops k saved)
+
+  -- the same where it is the current one that is put further up
+  abbrev pub grown : List A → List A → ℕ → A → List A
+  grown current saved n k = sum_of ops (replicate (n - degree current - degree current + 1) ops.zero ++ current) (scalar_multiple ops k saved)
+
 module _ {A : Type 0} (ops : Ops A) (ring : IsRing ops) where
   -- ---- what the sums give
 
   -- a polynomial, and k times another that is multiplied by x ^ m
-  dot_of-added : (k : A) (m j : ℕ) (f g s : List A) → dot_of ops (sum_of ops f (replicate m ops.zero ++ scalar_multiple ops k g)) (drop j s) ≡ ops.plus (dot_of ops f (drop j s)) (ops.times k (dot_of ops g (drop (j + m) s)))
+  pub dot_of-added : (k : A) (m j : ℕ) (f g s : List A) → dot_of ops (sum_of ops f (replicate m ops.zero ++ scalar_multiple ops k g)) (drop j s) ≡ ops.plus (dot_of ops f (drop j s)) (ops.times k (dot_of ops g (drop (j + m) s)))
   dot_of-added k m j f g s =
       dot_of-sum ops ring f (replicate m ops.zero ++ scalar_multiple ops k g) (drop j s)
       ∙ ap (ops.plus (dot_of ops f (drop j s)))
@@ -23,7 +32,7 @@ module _ {A : Type 0} (ops : Ops A) (ring : IsRing ops) where
       ∙ ap (λ z. ops.times k (dot_of ops g z)) (drop-drop m j s))
 
   -- a polynomial that is multiplied by x ^ m, and k times another
-  dot_of-raised : (k : A) (m j : ℕ) (f g s : List A) → dot_of ops (sum_of ops (replicate m ops.zero ++ f) (scalar_multiple ops k g)) (drop j s) ≡ ops.plus (dot_of ops f (drop (j + m) s)) (ops.times k (dot_of ops g (drop j s)))
+  pub dot_of-raised : (k : A) (m j : ℕ) (f g s : List A) → dot_of ops (sum_of ops (replicate m ops.zero ++ f) (scalar_multiple ops k g)) (drop j s) ≡ ops.plus (dot_of ops f (drop (j + m) s)) (ops.times k (dot_of ops g (drop j s)))
   dot_of-raised k m j f g s =
       dot_of-sum ops ring (replicate m ops.zero ++ f) (scalar_multiple ops k g) (drop j s)
       ∙ ap (λ z. ops.plus z (dot_of ops (scalar_multiple ops k g) (drop j s))) (dot_of-shifts ops ring m f (drop j s) ∙ ap (dot_of ops f) (drop-drop m j s))
@@ -66,6 +75,25 @@ module _ {A : Type 0} (ops : Ops A) (ring : IsRing ops) where
 
   -- ---- the search
 
+  module _ (s current saved : List A) (n : ℕ) (k inverse : A) (so_far : IsSolving ops s n current saved inverse) where
+    monic-mended : n - degree current < degree current → IsMonic ops (degree current) (mended ops current saved n k)
+    monic-mended long = monic_sum (degree current) current (replicate (degree current - (n - degree current) - 1) ops.zero ++ scalar_multiple ops k saved) so_far.monic short
+      where
+        short : length (replicate (degree current - (n - degree current) - 1) ops.zero ++ scalar_multiple ops k saved) ≤ degree current
+        short = omega (arith, length-append (replicate (degree current - (n - degree current) - 1) ops.zero) (scalar_multiple ops k saved), length-replicate (degree current - (n - degree current) - 1) ops.zero, length-map saved (ops.times k), so_far.room, so_far.some)
+
+    pub degree-mended : n - degree current < degree current → degree (mended ops current saved n k) ≡ degree current
+    degree-mended long = omega (arith, (monic-mended long).size)
+
+    monic-grown : degree current ≤ n - degree current → IsMonic ops (n - degree current - degree current + 1 + degree current) (grown ops current saved n k)
+    monic-grown short =
+        monic_sum (n - degree current - degree current + 1 + degree current) (replicate (n - degree current - degree current + 1) ops.zero ++ current) (scalar_multiple ops k saved)
+        (monic_raised (n - degree current - degree current + 1) (degree current) current so_far.monic)
+        (omega (arith, length-map saved (ops.times k), so_far.room, so_far.some))
+
+    pub degree-grown : degree current ≤ n - degree current → degree (grown ops current saved n k) + degree current ≡ n + 1
+    degree-grown short = omega (arith, (monic-grown short).size, so_far.room)
+
   -- before the first item
   pub solving_none : (s : List A) → IsSolving ops s 0 (ops.one ∷ []) (ops.one ∷ []) ops.one
   solving_none s = record {
@@ -98,9 +126,9 @@ module _ {A : Type 0} (ops : Ops A) (ring : IsRing ops) where
 
   -- an item that isn't, where the recurrence is long enough: a multiple of the saved one mends it
   pub solving_mended : (s current saved : List A) (n : ℕ) (d inverse : A) → IsSolving ops s n current saved inverse → d ≡ dot_of ops current (drop (n - degree current) s) → n - degree current < degree current
-      → IsSolving ops s (n + 1) (sum_of ops current (replicate (degree current - (n - degree current) - 1) ops.zero ++ scalar_multiple ops (ops.times d inverse) saved)) saved inverse
+      → IsSolving ops s (n + 1) (mended ops current saved n (ops.times d inverse)) saved inverse
   solving_mended s current saved n d inverse so_far is long = record {
-    monic = subst (λ z. IsMonic ops z mended) (sym same_degree) monic;
+    monic = subst (λ z. IsMonic ops z (mended ops current saved n (ops.times d inverse))) (sym same_degree) (monic-mended s current saved n (ops.times d inverse) inverse so_far long);
     holds = λ k lt. at k (meets (k + degree current) n (omega (arith, same_degree)));
     some = so_far.some;
     room = omega (arith, so_far.room, same_degree);
@@ -111,19 +139,10 @@ module _ {A : Type 0} (ops : Ops A) (ring : IsRing ops) where
       shift : ℕ
       shift = degree current - (n - degree current) - 1
 
-      mended : List A
-      mended = sum_of ops current (replicate shift ops.zero ++ scalar_multiple ops (ops.times d inverse) saved)
+      same_degree : degree (mended ops current saved n (ops.times d inverse)) ≡ degree current
+      same_degree = degree-mended s current saved n (ops.times d inverse) inverse so_far long
 
-      short : length (replicate shift ops.zero ++ scalar_multiple ops (ops.times d inverse) saved) ≤ degree current
-      short = omega (arith, length-append (replicate shift ops.zero) (scalar_multiple ops (ops.times d inverse) saved), length-replicate shift ops.zero, length-map saved (ops.times (ops.times d inverse)), so_far.room, so_far.some)
-
-      monic : IsMonic ops (degree current) mended
-      monic = monic_sum (degree current) current (replicate shift ops.zero ++ scalar_multiple ops (ops.times d inverse) saved) so_far.monic short
-
-      same_degree : degree mended ≡ degree current
-      same_degree = omega (arith, monic.size)
-
-      at : (k : ℕ) → (k + degree current < n) ⊎ (k + degree current ≡ n) → dot_of ops mended (drop k s) ≡ ops.zero
+      at : (k : ℕ) → (k + degree current < n) ⊎ (k + degree current ≡ n) → dot_of ops (mended ops current saved n (ops.times d inverse)) (drop k s) ≡ ops.zero
       at k (inl lt) =
           dot_of-added (ops.times d inverse) shift k current saved s
           ∙ both_zero (ops.times d inverse) (dot_of ops current (drop k s)) (dot_of ops saved (drop (k + shift) s)) (so_far.holds k lt) (so_far.saved_holds (k + shift) (omega arith))
@@ -136,9 +155,9 @@ module _ {A : Type 0} (ops : Ops A) (ring : IsRing ops) where
   -- and where it isn't: it is put further up, and what it was is saved
   pub solving_grown : (s current saved : List A) (n : ℕ) (d inverse next : A) → IsSolving ops s n current saved inverse → d ≡ dot_of ops current (drop (n - degree current) s) → degree current ≤ n - degree current
       → ops.times d next ≡ ops.one
-      → IsSolving ops s (n + 1) (sum_of ops (replicate (n - degree current - degree current + 1) ops.zero ++ current) (scalar_multiple ops (ops.times d inverse) saved)) current next
+      → IsSolving ops s (n + 1) (grown ops current saved n (ops.times d inverse)) current next
   solving_grown s current saved n d inverse next so_far is short is_next = record {
-    monic = subst (λ z. IsMonic ops z grown) (sym new_degree) monic;
+    monic = subst (λ z. IsMonic ops z (grown ops current saved n (ops.times d inverse))) (sym new_degree) monic;
     holds = λ k lt. at k (meets (k + 1) (degree current) (omega (arith, new_degree)));
     some = omega (arith, so_far.monic.size);
     room = omega (arith, so_far.room, new_degree);
@@ -149,19 +168,13 @@ module _ {A : Type 0} (ops : Ops A) (ring : IsRing ops) where
       shift : ℕ
       shift = n - degree current - degree current + 1
 
-      grown : List A
-      grown = sum_of ops (replicate shift ops.zero ++ current) (scalar_multiple ops (ops.times d inverse) saved)
+      monic : IsMonic ops (shift + degree current) (grown ops current saved n (ops.times d inverse))
+      monic = monic-grown s current saved n (ops.times d inverse) inverse so_far short
 
-      monic : IsMonic ops (shift + degree current) grown
-      monic =
-          monic_sum (shift + degree current) (replicate shift ops.zero ++ current) (scalar_multiple ops (ops.times d inverse) saved)
-          (monic_raised shift (degree current) current so_far.monic)
-          (omega (arith, length-map saved (ops.times (ops.times d inverse)), so_far.room, so_far.some))
-
-      new_degree : degree grown ≡ shift + degree current
+      new_degree : degree (grown ops current saved n (ops.times d inverse)) ≡ shift + degree current
       new_degree = omega (arith, monic.size)
 
-      at : (k : ℕ) → (k + 1 < degree current) ⊎ (k + 1 ≡ degree current) → dot_of ops grown (drop k s) ≡ ops.zero
+      at : (k : ℕ) → (k + 1 < degree current) ⊎ (k + 1 ≡ degree current) → dot_of ops (grown ops current saved n (ops.times d inverse)) (drop k s) ≡ ops.zero
       at k (inl lt) =
           dot_of-raised (ops.times d inverse) shift k current saved s
           ∙ both_zero (ops.times d inverse) (dot_of ops current (drop (k + shift) s)) (dot_of ops saved (drop k s)) (so_far.holds (k + shift) (omega arith)) (so_far.saved_holds k lt)

@@ -1,6 +1,6 @@
 use Rattle.std.proofs.Common.{◌+◌, ◌-◌, length, arith}
 use Rattle.bm_solver.proofs.Multiples.{multiple_added}
-use Rattle.bm_solver.proofs.solver.add_multiple.Goals as goal
+use Rattle.bm_solver.proofs.candidate.add_multiple.Goals as goal
 
 pub returns : goal.returns
 returns g c =
