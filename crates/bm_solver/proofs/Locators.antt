@@ -3,7 +3,6 @@ use Rattle.std.proofs.Common.{◌≡◌, ◌≢◌, ◌≤◌, List, [], ◌∷�
 use Rattle.std.proofs.lemmas.List.{get_or-reverse, length-reverse, reverse-reverse}
 use Rattle.field_rules.specs.Ops.{Ops}
 use Rattle.poly_rules.specs.Polynomials.{coefficient, IsSamePolynomial, IsTrimmed, IsMonic, degree}
-use Rattle.poly_laws.proofs.Remainders.{trimmed-same}
 use Rattle.bm_solver.specs.Locators.{coefficients_of}
 
 module _ {A : Type 0} (ops : Ops A) where
@@ -24,12 +23,3 @@ module _ {A : Type 0} (ops : Ops A) where
   -- and these coefficients are read from it
   pub coefficients_are : (cs : List A) → coefficients_of (reverse (ops.one ∷ cs)) ≡ cs
   coefficients_are cs = ap (drop 1) (reverse-reverse (ops.one ∷ cs))
-
-  -- a trimmed list that is the same polynomial is it
-  pub monic_only : (g f : List A) → ops.one ≢ ops.zero → IsTrimmed ops g → IsMonic ops (degree f) f → IsSamePolynomial ops g f → g ≡ f
-  monic_only g f apart trimmed monic same = trimmed-same ops g f trimmed not_zero same
-    where
-      not_zero : IsTrimmed ops f
-      not_zero n e none =
-          let at : n ≡ degree f = omega arith in
-          apart (sym monic.top ∙ ap (coefficient ops f) (sym at) ∙ none)

@@ -1,16 +1,16 @@
 -- Long division by a monic polynomial, one step at a time, and that there is a remainder.
-use Rattle.std.proofs.Common.{◌≡◌, ◌⊎◌, inl, inr, ℕ, suc, ◌+◌, ◌<◌, ◌≤◌, List, [], ◌∷◌, ◌++◌, length, take, replicate, refl, sym, ap, subst, ◌∙◌, arith}
-use Rattle.std.proofs.lemmas.List.{take_more, take_all, length-take-le, length-map, map-append}
+use Rattle.std.proofs.Common.{◌≡◌, ◌⊎◌, inl, inr, ℕ, zero, suc, ◌+◌, ◌<◌, ◌≤◌, List, [], ◌∷◌, ◌++◌, length, take, replicate, refl, sym, ap, subst, ◌∙◌, arith}
+use Rattle.std.proofs.lemmas.List.{take_more, take_all, get_or_past, length-take-le, length-map, map-append}
 use Rattle.field_rules.specs.Ops.{Ops, IsRing}
 use Rattle.field_rules.specs.Fields.{with_multiple}
 use Rattle.poly_rules.specs.Polynomials.{coefficient, IsSamePolynomial, IsMonic, sum_of, scalar_multiple, product_of}
 use Rattle.poly_rules.specs.Remainders.{IsRemainder}
-use Rattle.poly_laws.specs.Rests.{IsRest}
-use Rattle.field_laws.proofs.RingFacts.{zero_plus}
+use Rattle.poly_laws.specs.Rests.{IsRest, IsQuotient}
+use Rattle.field_laws.proofs.RingFacts.{zero_plus, plus_again}
 use Rattle.poly_laws.proofs.Elements.{plus_turn}
-use Rattle.poly_laws.proofs.Sums.{same_self, same_back, same_along, same_of, same_cons, sum_same}
-use Rattle.poly_laws.proofs.Products.{product_shift, product_term}
-use Rattle.poly_laws.proofs.Remainders.{monic-split, rest_self, rest_along, remainder_of_rest}
+use Rattle.poly_laws.proofs.Sums.{same_self, same_back, same_along, same_of, same_cons, coefficient-sum, sum_none, sum_none_same, sum_same, sum_assoc}
+use Rattle.poly_laws.proofs.Products.{product_sum_l, product_same_l, product_shift, product_term}
+use Rattle.poly_laws.proofs.Remainders.{monic-split, small_multiple, rest_self, rest_along, remainder_of_rest}
 
 module _ {A : Type 0} (ops : Ops A) where
   -- a sum with a list that is no longer has the length of the first
@@ -54,14 +54,13 @@ module _ {A : Type 0} (ops : Ops A) (ring : IsRing ops) where
       (plus_turn ops ring (ops.times k b) a (ops.times k b) ∙ ap (ops.plus a) (ring.plus_self (ops.times k b)) ∙ ring.plus_zero a)
       (sum_back k top l t (omega arith))
 
-  -- one step: the highest coefficient k goes, and k times f's lower coefficients are added to the n below it
-  pub division_step : (n : ℕ) (f u t : List A) (k : A) → IsMonic ops n f → length t ≡ n
-      → IsRest ops f (u ++ (t ++ k ∷ [])) (u ++ sum_of ops t (scalar_multiple ops k (take n f)))
-  division_step n f u t k monic size = record {
-    quotient = replicate (length u) ops.zero ++ k ∷ [];
-    divides = same_back ops (same_along ops (sum_same ops ring shifted (same_self ops (u ++ sum_of ops t (scalar_multiple ops k (take n f)))))
-        (same_along ops (sum_behind u (scalar_multiple ops k (take n f) ++ k ∷ []) (sum_of ops t (scalar_multiple ops k (take n f)))) (under u (sum_back k k (take n f) t even))));
-  }
+  -- one step: the highest coefficient k goes into the quotient, and k times f's lower coefficients are added to the n below
+  -- it
+  division_exact : (n : ℕ) (f u t : List A) (k : A) → IsMonic ops n f → length t ≡ n
+      → IsSamePolynomial ops (u ++ (t ++ k ∷ [])) (sum_of ops (product_of ops (replicate (length u) ops.zero ++ k ∷ []) f) (u ++ sum_of ops t (scalar_multiple ops k (take n f))))
+  division_exact n f u t k monic size =
+      same_back ops (same_along ops (sum_same ops ring shifted (same_self ops (u ++ sum_of ops t (scalar_multiple ops k (take n f)))))
+      (same_along ops (sum_behind u (scalar_multiple ops k (take n f) ++ k ∷ []) (sum_of ops t (scalar_multiple ops k (take n f)))) (under u (sum_back k k (take n f) t even))))
     where
       even : length t ≡ length (take n f)
       even = size ∙ sym (length-take-le n f (omega (arith, monic.size)))
@@ -78,6 +77,50 @@ module _ {A : Type 0} (ops : Ops A) (ring : IsRing ops) where
       under : (v : List A) {g h : List A} → IsSamePolynomial ops g h → IsSamePolynomial ops (v ++ g) (v ++ h)
       under [] e = e
       under (a ∷ v) e = same_cons ops a a refl (under v e)
+
+  -- so it leaves a rest
+  division_step : (n : ℕ) (f u t : List A) (k : A) → IsMonic ops n f → length t ≡ n
+      → IsRest ops f (u ++ (t ++ k ∷ [])) (u ++ sum_of ops t (scalar_multiple ops k (take n f)))
+  division_step n f u t k monic size = record { quotient = replicate (length u) ops.zero ++ k ∷ []; divides = division_exact n f u t k monic size }
+
+  -- a term goes where there is none
+  term_joined : (m : ℕ) (k : A) (above : List A) → IsSamePolynomial ops (sum_of ops (replicate m ops.zero ++ ops.zero ∷ above) (replicate m ops.zero ++ k ∷ [])) (replicate m ops.zero ++ k ∷ above)
+  unfolding sum_of
+  term_joined zero k above = same_cons ops (ops.plus ops.zero k) k (zero_plus ops ring k) (same_of ops (sum_none ops ring above))
+  term_joined (suc m) k above = same_cons ops (ops.plus ops.zero ops.zero) ops.zero (ring.plus_zero ops.zero) (term_joined m k above)
+
+  -- what is divided stays the sum of the quotient so far, whose terms are above, times f, and of what is left
+  pub quotient_step : (n : ℕ) (a f u t above : List A) (k : A) → IsMonic ops n f → length t ≡ n
+      → IsSamePolynomial ops a (sum_of ops (product_of ops (replicate (length u) ops.zero ++ ops.zero ∷ above) f) (u ++ (t ++ k ∷ [])))
+      → IsSamePolynomial ops a (sum_of ops (product_of ops (replicate (length u) ops.zero ++ k ∷ above) f) (u ++ sum_of ops t (scalar_multiple ops k (take n f))))
+  quotient_step n a f u t above k monic size so_far =
+      same_along ops so_far
+      (same_along ops (sum_same ops ring (same_self ops (product_of ops high f)) (division_exact n f u t k monic size))
+      (same_along ops (same_back ops (sum_assoc ops ring (product_of ops high f) (product_of ops term f) rest))
+      (sum_same ops ring (same_along ops (same_back ops (product_sum_l ops ring high term f)) (product_same_l ops ring f (term_joined (length u) k above))) (same_self ops rest))))
+    where
+      high : List A
+      high = replicate (length u) ops.zero ++ ops.zero ∷ above
+
+      term : List A
+      term = replicate (length u) ops.zero ++ k ∷ []
+
+      rest : List A
+      rest = u ++ sum_of ops t (scalar_multiple ops k (take n f))
+
+  -- the quotient of a product by one factor is the other
+  pub quotient_of_product : (n : ℕ) (a f g q : List A) → IsMonic ops n f → IsSamePolynomial ops a (product_of ops g f) → IsQuotient ops a f q → IsSamePolynomial ops q g
+  quotient_of_product n a f g q monic exact h =
+      sum_none_same ops ring q g
+      (small_multiple ops ring n f monic (sum_of ops q g) (λ i le. left.each i ∙ get_or_past h.rest i ops.zero (omega (arith, h.short, monic.size))))
+    where
+      left : IsSamePolynomial ops (product_of ops (sum_of ops q g) f) h.rest
+      left = same_along ops (product_sum_l ops ring q g f) (record {
+        each = λ i.
+            (coefficient-sum ops ring (product_of ops q f) (product_of ops g f) i
+            ∙ ap (ops.plus (coefficient ops (product_of ops q f) i)) (sym (exact.each i) ∙ h.divides.each i ∙ coefficient-sum ops ring (product_of ops q f) h.rest i)
+            ∙ plus_again ops ring (coefficient ops (product_of ops q f) i) (coefficient ops h.rest i));
+      })
 
   -- the rest of x times a polynomial, with a constant
   rest_cons : (f p r : List A) (a : A) → IsRest ops f p r → IsRest ops f (a ∷ p) (a ∷ r)

@@ -1,8 +1,8 @@
 -- Remainders by a monic polynomial: there is one, and it is kept by sums and products.
-use Rattle.std.proofs.Common.{◌≡◌, ◌⊎◌, inl, inr, ℕ, zero, suc, ◌+◌, ◌<◌, ◌≤◌, List, [], ◌∷◌, ◌++◌, length, take, refl, sym, ap, ◌∙◌, arith, add-one}
+use Rattle.std.proofs.Common.{◌≡◌, ◌≢◌, ◌⊎◌, inl, inr, ℕ, zero, suc, ◌+◌, ◌<◌, ◌≤◌, List, [], ◌∷◌, ◌++◌, length, take, refl, sym, ap, ◌∙◌, arith, add-one}
 use Rattle.std.proofs.lemmas.List.{get_or_past, ext_get_or, take_more, take_all}
 use Rattle.field_rules.specs.Ops.{Ops, IsRing}
-use Rattle.poly_rules.specs.Polynomials.{coefficient, IsSamePolynomial, IsTrimmed, IsMonic, sum_of, scalar_multiple, product_of}
+use Rattle.poly_rules.specs.Polynomials.{coefficient, degree, IsSamePolynomial, IsTrimmed, IsMonic, sum_of, scalar_multiple, product_of}
 use Rattle.poly_rules.specs.Remainders.{IsRemainder}
 use Rattle.poly_laws.specs.Rests.{IsRest}
 use Rattle.field_laws.proofs.RingFacts.{zero_plus, times_zero}
@@ -34,6 +34,15 @@ module _ {A : Type 0} (ops : Ops A) where
     where
       even : length f ≡ length g
       even = omega (arith, trimmed-shortest f g trimmed_f same, trimmed-shortest g f trimmed_g (same_back ops same))
+
+  -- so is one that is monic
+  pub monic-same : (f g : List A) → ops.one ≢ ops.zero → IsTrimmed ops f → IsMonic ops (degree g) g → IsSamePolynomial ops f g → f ≡ g
+  monic-same f g apart trimmed monic same = trimmed-same f g trimmed not_zero same
+    where
+      not_zero : IsTrimmed ops g
+      not_zero n e none =
+          let at : n ≡ degree g = omega arith in
+          apart (sym monic.top ∙ ap (coefficient ops g) (sym at) ∙ none)
 
   -- a monic polynomial is its lower coefficients and a one
   pub monic-split : (n : ℕ) (f : List A) → IsMonic ops n f → f ≡ take n f ++ ops.one ∷ []

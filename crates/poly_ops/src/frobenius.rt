@@ -4,7 +4,9 @@ ghost use Rattle.std.specs.Prelude.{◌≡◌, ◌≤◌, IfOk};
 ghost use Rattle.poly_rules.specs.Polynomials.{degree, IsMonic, IsSamePolynomial, monomial};
 ghost use Rattle.poly_rules.specs.Remainders.{IsFrobeniusTable};
 
-use crate::{Poly, rem_monic, square_mod};
+use crate::divisor::Divisor;
+use crate::remainder::square_by;
+use crate::{Poly, rem_monic};
 use base_types::OutOfMemory;
 use field_core::Field;
 use std::alloc::Global;
@@ -16,9 +18,10 @@ pub fn frobenius_table<F: Field>(alloc: Global, f: &Poly<F>) -> Result<Vec<Poly<
     ensures { IfOk result (λ table. IsFrobeniusTable F.ops f.now F.BITS table.items) }
 {
     let mut table = Vec::with_capacity(alloc, F::BITS as usize + 1)?;
+    let divisor = Divisor::for_many(alloc, f.coeffs())?;
     let mut power = rem_monic(alloc, &variable(alloc)?, f)?;
     for _ in 0..F::BITS {
-        let square = square_mod(alloc, &power, f)?;
+        let square = square_by(alloc, &power, &divisor)?;
         table.push(power)?;
         power = square;
     }

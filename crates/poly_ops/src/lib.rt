@@ -1,6 +1,7 @@
-//! Polynomials over a field: their values, their remainders, and the recurrences that they give.
+//! Polynomials over a field: their values, their remainders and quotients, and the recurrences that they give.
 #![tactic(auto)]
 
+mod divisor;
 mod frobenius;
 mod poly;
 mod recurrence;
@@ -9,4 +10,4 @@ mod remainder;
 pub use frobenius::frobenius_table;
 pub use poly::Poly;
 pub use recurrence::extend_recurrence;
-pub use remainder::{rem_monic, square_mod};
+pub use remainder::{quotient, rem_monic, square_mod};

@@ -1,12 +1,13 @@
-//! Remainders by a monic polynomial.
+//! Division by a monic polynomial: remainders and quotients.
 
-ghost use Rattle.std.specs.Prelude.{◌≡◌, ℕ, ◌≤◌, length, take, IfOk};
-ghost use Rattle.poly_rules.specs.Polynomials.{degree, IsMonic, product_of};
+ghost use Rattle.std.specs.Prelude.{◌≡◌, List, ◌≤◌, length, take, drop, IfOk};
+ghost use Rattle.poly_rules.specs.Polynomials.{degree, IsMonic, IsTrimmed, IsSamePolynomial, sum_of, product_of};
 ghost use Rattle.poly_rules.specs.Remainders.{IsRemainder};
-ghost use Rattle.poly_laws.specs.Rests.{IsRest};
+ghost use Rattle.poly_laws.specs.Rests.{IsQuotient};
 ghost use Rattle.poly_laws.specs.Squares.{with_zeros};
 
 use crate::Poly;
+use crate::divisor::Divisor;
 use base_types::OutOfMemory;
 use field_core::Field;
 use std::alloc::Global;
@@ -17,7 +18,23 @@ pub fn rem_monic<F: Field>(alloc: Global, a: &Poly<F>, f: &Poly<F>) -> Result<Po
     requires degree { 1 ≤ degree f.now }
     ensures { IfOk result (λ r. IsRemainder F.ops a.now f.now r) }
 {
-    Ok(reduced(Vec::from_slice(alloc, a.coeffs())?, f))
+    let coefficients = Vec::from_slice(alloc, a.coeffs())?;
+    Ok(reduced(coefficients, &Divisor::of(f.coeffs())))
+}
+
+/// The quotient of `a` by `f`, which is monic of degree at least 1: of a product by one factor it is the other.
+pub fn quotient<F: Field>(alloc: Global, a: &Poly<F>, f: &Poly<F>) -> Result<Poly<F>, OutOfMemory>
+    requires monic { IsMonic F.ops (degree f.now) f.now }
+    requires degree { 1 ≤ degree f.now }
+    ensures divides { IfOk result (λ q. IsQuotient F.ops a.now f.now q) }
+    ensures exact { (g : List F) → IsMonic F.ops (degree g) g → IsSamePolynomial F.ops a.now (product_of F.ops g f.now) → IfOk result (λ q. q ≡ g) }
+{
+    let mut rest = Vec::from_slice(alloc, a.coeffs())?;
+    let divisor = Divisor::of(f.coeffs());
+    divide(rest.as_mut_slice(), &divisor);
+    let from = divisor.degree().min(rest.len());
+    let coefficients = Vec::from_slice(alloc, &rest.as_slice()[from..])?;
+    Ok(Poly::from_coeffs(coefficients))
 }
 
 /// The remainder of the square of `a` by `f`, which is monic of degree at least 1.
@@ -26,34 +43,41 @@ pub fn square_mod<F: Field>(alloc: Global, a: &Poly<F>, f: &Poly<F>) -> Result<P
     requires degree { 1 ≤ degree f.now }
     ensures { IfOk result (λ r. IsRemainder F.ops (product_of F.ops a.now a.now) f.now r) }
 {
+    square_by(alloc, a, &Divisor::of(f.coeffs()))
+}
+
+/// The remainder of the square of `a`.
+pub fn square_by<F: Field>(
+    alloc: Global,
+    a: &Poly<F>,
+    f: &Divisor<F>,
+) -> Result<Poly<F>, OutOfMemory>
+    ensures { IfOk result (λ r. IsRemainder F.ops (product_of F.ops a.now a.now) f.now r) }
+{
     let mut squares = Vec::from_slice(alloc, a.coeffs())?;
     F::square_each(squares.as_mut_slice());
     Ok(reduced(with_zeros_between(alloc, squares.as_slice())?, f))
 }
 
-/// The remainder by `f` of the polynomial of these coefficients.
-fn reduced<F: Field>(coeffs: Vec<F>, f: &Poly<F>) -> Poly<F>
-    requires monic { IsMonic F.ops (degree f.now) f.now }
-    requires degree { 1 ≤ degree f.now }
+/// The remainder of the polynomial of these coefficients.
+fn reduced<F: Field>(coeffs: Vec<F>, f: &Divisor<F>) -> Poly<F>
     ensures { IsRemainder F.ops coeffs.items f.now result }
 {
     let mut rest = coeffs;
-    divide(rest.as_mut_slice(), f.coeffs());
-    rest.truncate(f.coeffs().len() - 1);
+    divide(rest.as_mut_slice(), f);
+    rest.truncate(f.degree());
     Poly::from_coeffs(rest)
 }
 
-/// Long division by `f`: leaves a rest in the coefficients below the degree.
-fn divide<F: Field>(rest: &mut [F], f: &[F])
-    requires monic { IsMonic F.ops (degree f.now) f.now }
-    requires degree { 1 ≤ degree f.now }
-    ensures rest { IsRest F.ops f.now rest.old (take (degree f.now) rest.new) }
+/// Long division: leaves the quotient in the coefficients from the degree on, and the remainder in those below.
+fn divide<F: Field>(rest: &mut [F], f: &Divisor<F>)
+    ensures { IsSamePolynomial F.ops rest.old
+        (sum_of F.ops (product_of F.ops (drop (degree f.now) rest.new) f.now) (take (degree f.now) rest.new)) }
 {
-    let n = f.len() - 1;
-    let lower = &f[..n];
+    let n = f.degree();
     for top in (n..rest.len()).rev() {
         let k = rest[top];
-        F::axpy(&mut rest[top - n..top], k, lower);
+        f.add_lower(&mut rest[top - n..top], k);
     }
 }
 

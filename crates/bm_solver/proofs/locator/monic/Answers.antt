@@ -1,11 +1,11 @@
 use Rattle.std.proofs.Common.{sym, subst, ap, ◌∙◌}
 use Rattle.poly_rules.specs.Polynomials.{IsSamePolynomial, IsMonic, degree}
-use Rattle.bm_solver.proofs.Locators.{monic_only}
+use Rattle.poly_laws.proofs.Remainders.{monic-same}
 use Rattle.bm_solver.proofs.locator.monic.Goals as goal
 
 pub returns-clause-value : goal.returns-clause-value
 returns-clause-value g c =
-    monic_only g.F.Field.ops c.from_coeffs.result c.monic_form.result.now g.met.F.Field.field.apart c.from_coeffs.ensures.trimmed c.monic_form.ensures.monic
+    monic-same g.F.Field.ops c.from_coeffs.result c.monic_form.result.now g.met.F.Field.field.apart c.from_coeffs.ensures.trimmed c.monic_form.ensures.monic
     (subst (IsSamePolynomial g.F.Field.ops c.from_coeffs.result) (c.in_ok-coefficients.ensures.items ∙ c.coeffs.ensures.value) c.from_coeffs.ensures.same)
     ∙ c.monic_form.ensures.value
 

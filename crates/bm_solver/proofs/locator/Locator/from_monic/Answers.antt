@@ -2,7 +2,8 @@ use Rattle.std.proofs.Common.{◌≡◌, ◌++◌, ◌∷◌, length, take, drop
 use Rattle.std.proofs.lemmas.List.{take_at}
 use Rattle.poly_rules.specs.Polynomials.{IsSamePolynomial, IsMonic, degree}
 use Rattle.bm_solver.specs.Locators.{coefficients_of}
-use Rattle.bm_solver.proofs.Locators.{monic_is, monic_only}
+use Rattle.poly_laws.proofs.Remainders.{monic-same}
+use Rattle.bm_solver.proofs.Locators.{monic_is}
 use Rattle.bm_solver.proofs.locator.Locator.from_monic.Goals as goal
 
 pub invariant_of-result : goal.invariant_of-result
@@ -12,7 +13,7 @@ invariant_of-result g c = record {
 }
   where
     kept : c.from_coeffs-2.result ≡ c.args.monic.items
-    kept = monic_only g.F.Field.ops c.from_coeffs-2.result c.args.monic.items g.met.F.Field.field.apart c.from_coeffs-2.ensures.trimmed c.requires c.from_coeffs-2.ensures.same
+    kept = monic-same g.F.Field.ops c.from_coeffs-2.result c.args.monic.items g.met.F.Field.field.apart c.from_coeffs-2.ensures.trimmed c.requires c.from_coeffs-2.ensures.same
 
     turned : take c.extend_from_slice.new.self.len (c.reverse.new.self ++ drop (length c.reverse.new.self) c.extend_from_slice.new.self.items) ≡ reverse c.args.monic.items
     turned =
@@ -24,4 +25,4 @@ pub returns : goal.returns
 returns g c =
     monic_is g.F.Field.ops c.args.monic.items c.requires
     ∙ ap (λ f. reverse (g.F.Field.ops.one ∷ coefficients_of f))
-    (sym (monic_only g.F.Field.ops c.from_coeffs-2.result c.args.monic.items g.met.F.Field.field.apart c.from_coeffs-2.ensures.trimmed c.requires c.from_coeffs-2.ensures.same))
+    (sym (monic-same g.F.Field.ops c.from_coeffs-2.result c.args.monic.items g.met.F.Field.field.apart c.from_coeffs-2.ensures.trimmed c.requires c.from_coeffs-2.ensures.same))

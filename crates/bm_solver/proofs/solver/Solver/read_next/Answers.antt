@@ -10,11 +10,11 @@ returns-then-eq-clause-so_far g c =
 
 pub returns-then-start-length-clause-so_far : goal.returns-then-start-length-clause-so_far
 returns-then-start-length-clause-so_far g c =
-    mended g.F.Field.ops g.met.F.Field.ring c.requires.so_far c.requires.inside c.index.ensures _ _ _ _ (omega arith) (omega arith) c.mul-factor.ensures.times
+    mended g.F.Field.ops g.met.F.Field.ring c.requires.so_far c.requires.inside c.index.ensures c.len-length.result c.len.result c.mul-factor.result c.add.new.self.discrepancies.items (omega arith) (omega arith) c.mul-factor.ensures.times
     c.add.ensures.size c.add.ensures.discrepancies c.if-start-length.true c.add.ensures.monic
 
 pub returns-in_ok-grow-clause-so_far : goal.returns-in_ok-grow-clause-so_far
 returns-in_ok-grow-clause-so_far g c =
     rw c.in_ok-grow.ensures.saved
-    (grown g.F.Field.ops g.met.F.Field.ring c.requires.so_far c.requires.inside c.index.ensures _ _ _ _ (omega arith) (omega arith) c.mul-factor.ensures.times
+    (grown g.F.Field.ops g.met.F.Field.ring c.requires.so_far c.requires.inside c.index.ensures c.len-length.result c.len.result c.mul-factor.result c.grow.new.self.current.discrepancies.items (omega arith) (omega arith) c.mul-factor.ensures.times
     c.in_ok-grow.ensures.current_size c.in_ok-grow.ensures.discrepancies c.if-start-length.false c.in_ok-grow.ensures.monic c.inv-self.ensures c.in_ok-grow.ensures.room_size)

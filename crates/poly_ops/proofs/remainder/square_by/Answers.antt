@@ -4,7 +4,7 @@ use Rattle.poly_rules.specs.Polynomials.{IsSamePolynomial, product_of}
 use Rattle.poly_laws.specs.Squares.{with_zeros}
 use Rattle.poly_laws.proofs.Squares.{square_is}
 use Rattle.poly_laws.proofs.Remainders.{remainder_from}
-use Rattle.poly_ops.proofs.remainder.square_mod.Goals as goal
+use Rattle.poly_ops.proofs.remainder.square_by.Goals as goal
 
 pub returns : goal.returns
 returns g c =
