@@ -50,7 +50,7 @@ impl Pool {
                 computed,
             }));
         }
-        match self.put(id, tx)? {
+        match self.insert_named(id, tx)? {
             Inserted::New => Ok(()),
             Inserted::Present => Err(LineStop::Faulty(Kind::Repeated)),
             Inserted::Full => Err(LineStop::Faulty(Kind::PoolFull)),

@@ -101,26 +101,11 @@ impl Pool {
         ensures unchanged { OnErr result (self.new ≡ self.old) }
     {
         let id = wtxid(tx.as_slice());
-        self.put(id, tx)
+        self.insert_named(id, tx)
     }
 
-    /// The pool as a text of form 2.
-    pub fn save_text(&self) -> Result<Bytes, OutOfMemory>
-        ensures text { IfOk result (λ text. text ≡ pool_text self.now) }
-        ensures read_again { IfOk result (λ text. pool_in text ≡ Ok self.now) }
-        ensures short { IfOk result (λ text. length text ≤ POOL_FILE_LIMIT) }
-    {
-        let len = HEADING_BYTES + LINE_BYTES * self.len() + 2 * self.bytes as usize;
-        let mut text = Vec::with_capacity(self.alloc, len)?;
-        push_heading(&mut text, self.len())?;
-        for (id, tx) in self.transactions.iter() {
-            push_line(self.alloc, &mut text, id, tx)?;
-        }
-        Ok(Bytes::from_vec(text))
-    }
-
-    /// Puts in a transaction whose id is known.
-    pub(crate) fn put(&mut self, id: Hash32, tx: Bytes) -> Result<Inserted, OutOfMemory>
+    /// Puts in a transaction of 1 to `TX_LIMIT` bytes whose id is known. Where memory runs out, the pool stays as it was.
+    pub fn insert_named(&mut self, id: Hash32, tx: Bytes) -> Result<Inserted, OutOfMemory>
         requires sized { IsTrue (is_tx_length (length tx)) }
         requires named { id ≡ wtxid tx }
         ensures pool { OnOk result (self.new ≡ (insertion_of self.old tx).pool) }
@@ -136,6 +121,21 @@ impl Pool {
         }
         self.append(id, tx)?;
         Ok(Inserted::New)
+    }
+
+    /// The pool as a text of form 2.
+    pub fn save_text(&self) -> Result<Bytes, OutOfMemory>
+        ensures text { IfOk result (λ text. text ≡ pool_text self.now) }
+        ensures read_again { IfOk result (λ text. pool_in text ≡ Ok self.now) }
+        ensures short { IfOk result (λ text. length text ≤ POOL_FILE_LIMIT) }
+    {
+        let len = HEADING_BYTES + LINE_BYTES * self.len() + 2 * self.bytes as usize;
+        let mut text = Vec::with_capacity(self.alloc, len)?;
+        push_heading(&mut text, self.len())?;
+        for (id, tx) in self.transactions.iter() {
+            push_line(self.alloc, &mut text, id, tx)?;
+        }
+        Ok(Bytes::from_vec(text))
     }
 
     /// Whether there is room for one more transaction.

@@ -21,15 +21,15 @@ returns-then-ne c =
 
 pub returns-in-New : goal.returns-in-New
 returns-in-New c =
-    outcome_of-put c.args.self.now c.args.line.now c.in-Ok.id c.wtxid-computed.result c.in-Ok-tx_in.tx inserted.New c.put.new.self (sym c.in-Ok.ensures) (ap tx_in (sym c.split_at.ensures.back) ∙ c.in-Ok-tx_in.ensures.read)
-    (c.wtxid-computed.ensures ∙ ap wtxid c.as_slice.ensures) (sym c.ne.ensures ∙ c.if-ne.false) c.in_ok-put.ensures.pool (sym c.in-New.is ∙ c.in_ok-put.ensures.inserted)
+    outcome_of-put c.args.self.now c.args.line.now c.in-Ok.id c.wtxid-computed.result c.in-Ok-tx_in.tx inserted.New c.insert_named.new.self (sym c.in-Ok.ensures) (ap tx_in (sym c.split_at.ensures.back) ∙ c.in-Ok-tx_in.ensures.read)
+    (c.wtxid-computed.ensures ∙ ap wtxid c.as_slice.ensures) (sym c.ne.ensures ∙ c.if-ne.false) c.in_ok-insert_named.ensures.pool (sym c.in-New.is ∙ c.in_ok-insert_named.ensures.inserted)
 
 pub returns-in-Present : goal.returns-in-Present
 returns-in-Present c =
-    outcome_of-put c.args.self.now c.args.line.now c.in-Ok.id c.wtxid-computed.result c.in-Ok-tx_in.tx inserted.Present c.put.new.self (sym c.in-Ok.ensures) (ap tx_in (sym c.split_at.ensures.back) ∙ c.in-Ok-tx_in.ensures.read)
-    (c.wtxid-computed.ensures ∙ ap wtxid c.as_slice.ensures) (sym c.ne.ensures ∙ c.if-ne.false) c.in_ok-put.ensures.pool (sym c.in-Present.is ∙ c.in_ok-put.ensures.inserted)
+    outcome_of-put c.args.self.now c.args.line.now c.in-Ok.id c.wtxid-computed.result c.in-Ok-tx_in.tx inserted.Present c.insert_named.new.self (sym c.in-Ok.ensures) (ap tx_in (sym c.split_at.ensures.back) ∙ c.in-Ok-tx_in.ensures.read)
+    (c.wtxid-computed.ensures ∙ ap wtxid c.as_slice.ensures) (sym c.ne.ensures ∙ c.if-ne.false) c.in_ok-insert_named.ensures.pool (sym c.in-Present.is ∙ c.in_ok-insert_named.ensures.inserted)
 
 pub returns-in-Full : goal.returns-in-Full
 returns-in-Full c =
-    outcome_of-put c.args.self.now c.args.line.now c.in-Ok.id c.wtxid-computed.result c.in-Ok-tx_in.tx inserted.Full c.put.new.self (sym c.in-Ok.ensures) (ap tx_in (sym c.split_at.ensures.back) ∙ c.in-Ok-tx_in.ensures.read)
-    (c.wtxid-computed.ensures ∙ ap wtxid c.as_slice.ensures) (sym c.ne.ensures ∙ c.if-ne.false) c.in_ok-put.ensures.pool (sym c.in-Full.is ∙ c.in_ok-put.ensures.inserted)
+    outcome_of-put c.args.self.now c.args.line.now c.in-Ok.id c.wtxid-computed.result c.in-Ok-tx_in.tx inserted.Full c.insert_named.new.self (sym c.in-Ok.ensures) (ap tx_in (sym c.split_at.ensures.back) ∙ c.in-Ok-tx_in.ensures.read)
+    (c.wtxid-computed.ensures ∙ ap wtxid c.as_slice.ensures) (sym c.ne.ensures ∙ c.if-ne.false) c.in_ok-insert_named.ensures.pool (sym c.in-Full.is ∙ c.in_ok-insert_named.ensures.inserted)

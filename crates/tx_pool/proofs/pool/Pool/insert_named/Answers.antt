@@ -2,7 +2,7 @@ use Rattle.std.proofs.Common.{sym, ap, ◌∙◌}
 use Rattle.pool_rules.specs.Pools.{is_in_pool, has_room}
 use Rattle.tx_pool.proofs.Putting.{insertion_of-present, insertion_of-full, insertion_of-new, outcome_of}
 use Rattle.pool_rules.specs.declared.insertion.Inserted.TheVariants as inserted
-use Rattle.tx_pool.proofs.pool.Pool.put.Goals as goal
+use Rattle.tx_pool.proofs.pool.Pool.insert_named.Goals as goal
 
 pub returns-then-contains-clause-pool : goal.returns-then-contains-clause-pool
 returns-then-contains-clause-pool c =
