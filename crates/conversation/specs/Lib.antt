@@ -1,0 +1,3 @@
+pub mod Views
+pub mod Handled
+pub mod Inventories
