@@ -1,0 +1,14 @@
+pub mod Weighing
+pub mod Sequences
+pub mod Halves
+pub mod Units
+pub mod Squaring
+pub mod Shortest
+pub mod Parting
+pub mod Descent
+pub mod Existence
+pub mod Powers
+pub mod Two
+pub mod Steps
+pub mod Rows
+pub mod Found
