@@ -1,8 +1,9 @@
-//! The counts that the fakes and the adapters keep of their calls.
+//! What the fakes and the adapters keep of their calls.
 
 ghost use Rattle.std.specs.Prelude.{◌≡◌, ◌≤◌, ◌↔◌, IsTrue};
 ghost use Rattle.std.specs.List.{Contains};
 ghost use Rattle.erlay_base.specs.Causes.{next_count};
+ghost use Rattle.erlay_base.specs.WireCalls.{IsEndTold};
 
 use base_types::Failed;
 
@@ -22,4 +23,11 @@ pub fn fault(faults: &mut u64) -> Failed
 {
     *faults = faults.saturating_add(1);
     Failed
+}
+
+/// Whether an input is over after a call that gave `count` bytes where there was `room` for so many.
+pub fn is_over_after(is_over: bool, count: usize, room: usize) -> bool
+    ensures { IsEndTold count room is_over result }
+{
+    is_over || (count == 0 && room > 0)
 }

@@ -104,7 +104,7 @@ impl<W: Write + Drop> Sink for StdSink<W> {
         ensures passed { IfOk result (λ n. Appends (W.contents self.old.stream) (W.contents self.new.stream) (take n piece.now)) }
         ensures front { OnErr result (WritesFront (W.contents self.old.stream) (W.contents self.new.stream) piece.now) }
     {
-        match write_retrying(&mut self.writer, piece) {
+        match write_and_flush(&mut self.writer, piece) {
             Ok(count) if count > 0 || piece.is_empty() => Ok(count),
             _ => Err(fault(&mut self.faults)),
         }
@@ -119,7 +119,7 @@ fn is_interrupted(error: &Error) -> bool
 }
 
 // One read, tried again where a signal interrupts it.
-fn read_retrying<R: Read>(reader: &mut R, buf: &mut [u8]) -> Result<usize, Failed>
+pub(crate) fn read_retrying<R: Read>(reader: &mut R, buf: &mut [u8]) -> Result<usize, Failed>
     ensures bound { ReadsAtMost result buf.new }
     ensures bytes { ReadConsumes (R.remaining reader.old) (R.remaining reader.new) result buf.new }
 {
@@ -134,17 +134,24 @@ fn read_retrying<R: Read>(reader: &mut R, buf: &mut [u8]) -> Result<usize, Faile
 }
 
 // One write and a flush, each tried again where a signal interrupts it.
-fn write_retrying<W: Write>(writer: &mut W, piece: &[u8]) -> Result<usize, Failed>
+fn write_and_flush<W: Write>(writer: &mut W, piece: &[u8]) -> Result<usize, Failed>
     ensures bound { WritesAtMost result piece.now }
     ensures bytes { IfOk result (λ n. Appends (W.contents writer.old) (W.contents writer.new) (take n piece.now)) }
     ensures front { OnErr result (WritesFront (W.contents writer.old) (W.contents writer.new) piece.now) }
 {
+    let count = write_retrying(writer, piece)?;
+    flush_retrying(writer)?;
+    Ok(count)
+}
+
+// One write, tried again where a signal interrupts it.
+pub(crate) fn write_retrying<W: Write>(writer: &mut W, piece: &[u8]) -> Result<usize, Failed>
+    ensures bound { WritesAtMost result piece.now }
+    ensures bytes { WriteAppends (W.contents writer.old) (W.contents writer.new) result piece.now }
+{
     for _ in 0..TRIES {
         match writer.write(piece) {
-            Ok(count) => {
-                flush_retrying(writer)?;
-                return Ok(count);
-            }
+            Ok(count) => return Ok(count),
             Err(error) if is_interrupted(&error) => {}
             Err(_) => return Err(Failed),
         }
