@@ -74,11 +74,11 @@ run_text with_ids x = pair_text with_ids x ++ end_line side.A x.world.a.ended ++
 -- ---- the pair of a script
 
 -- a node of the main network, with the nonce 0 and the time 0
-abbrev pub script_config : Role → ℕ → Config
+unfoldable pub script_config : Role → ℕ → Config
 script_config r salt = record { magic = MAIN_MAGIC; role = r; salt = salt; nonce = 0; time = pos 0; top = 2 }
 
 -- the opener of salt 1 and the accepter of salt 2, with empty pools
-abbrev pub script_world : World
+unfoldable pub script_world : World
 script_world = opening_world (script_config role.Opener 1) (script_config role.Accepter 2) [] []
 
 -- what a script does to them

@@ -1,0 +1,2 @@
+pub mod NewPairs
+pub mod Runs
