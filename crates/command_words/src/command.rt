@@ -4,10 +4,11 @@ ghost use Rattle.std.specs.Prelude.{◌≡◌, ◌≢◌, ℕ, [], ◌∷◌, ma
 ghost use Rattle.std.specs.Fmt.{decimal};
 ghost use Rattle.std.specs.String.{string_bytes};
 ghost use Rattle.sketch_rules.specs.Sketches.{IsCapacity};
-ghost use Rattle.command_words.specs.Words.{HasForm, IsFormless};
+ghost use Rattle.command_words.specs.Words.{HasForm, IsFormless, IsGeneratorNumber};
 
 use crate::number::decimal_of;
 use crate::salt::salt_of;
+use protocol_text_rules::GENERATOR_LIMIT;
 use sketch_rules::MAX_CAPACITY;
 
 /// What the command line asks for.
@@ -25,6 +26,10 @@ pub enum Command {
     Show,
     /// Write the frames of the messages that the lines of the input show.
     Pack,
+    /// Write what becomes of two nodes to which the events of the script of the input happen.
+    Sim,
+    /// Write what becomes of two nodes to which the events of the script of a number happen. The number is from 1 to 10000.
+    Gen(u64),
 }
 
 /// The capacity of a sketch that the text spells in decimal digits.
@@ -36,6 +41,15 @@ fn capacity_of(text: &str) -> Option<usize>
     (1..=MAX_CAPACITY).contains(&capacity).then_some(capacity)
 }
 
+/// The number of a generated script that the text spells in decimal digits.
+#[tactic(auto, using(std::proofs::lemmas::Fmt::decimal_injective))]
+fn generator_number_of(text: &str) -> Option<u64>
+    ensures { MatchOption result ((n : ℕ) → IsGeneratorNumber n → text.now ≢ decimal n) (λ n. IsGeneratorNumber n × (text.now ≡ decimal n)) }
+{
+    let number = decimal_of(text)?;
+    (1..=GENERATOR_LIMIT).contains(&number).then_some(number)
+}
+
 /// The command of a name alone.
 fn without_argument(name: &str) -> Option<Command>
     ensures { MatchOption result (IsFormless (name.now ∷ [])) (HasForm (name.now ∷ [])) }
@@ -45,6 +59,7 @@ fn without_argument(name: &str) -> Option<Command>
         "decode" => Some(Command::Decode),
         "show" => Some(Command::Show),
         "pack" => Some(Command::Pack),
+        "sim" => Some(Command::Sim),
         _ => None,
     }
 }
@@ -55,6 +70,7 @@ fn with_argument(name: &str, argument: &str) -> Option<Command>
 {
     match name {
         "make" => Some(Command::Make(capacity_of(argument)?)),
+        "gen" => Some(Command::Gen(generator_number_of(argument)?)),
         _ => None,
     }
 }

@@ -1,3 +1,4 @@
+pub mod Answered
 pub mod Differences
 pub mod Endings
 pub mod Examples

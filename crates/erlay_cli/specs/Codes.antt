@@ -9,6 +9,7 @@ code_of status.Usage = 1
 code_of (status.BadInput number k) = 2
 code_of (status.BadStream offset k) = 2
 code_of status.NoSet = 3
+code_of (status.Refused e) = 4
 code_of status.ReadFault = 5
 code_of status.WriteFault = 6
 code_of (status.TooLong limit) = 10

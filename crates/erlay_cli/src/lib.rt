@@ -11,6 +11,7 @@ mod pack;
 mod program;
 mod report;
 mod show;
+mod sim;
 mod sketch_lines;
 mod status;
 mod top;

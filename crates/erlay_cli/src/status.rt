@@ -3,6 +3,7 @@
 ghost use Rattle.std.specs.Prelude.{◌≡◌};
 
 use base_types::Kind;
+use node_rules::End;
 use protocol_text_rules::StreamKind;
 
 /// How a run ended.
@@ -18,6 +19,8 @@ pub enum Status {
     BadStream { place: u64, kind: StreamKind },
     /// No set of at most as many elements as the sketch has sums has it. `no set` was written.
     NoSet,
+    /// A node of a run of two nodes ended, for the cause that is named. What became of the nodes was written.
+    Refused(End),
     /// A read of the input failed.
     ReadFault,
     /// A write of the output failed. Nothing was written after it.
@@ -41,6 +44,7 @@ impl Status {
             Status::BadInput { .. } => 2,
             Status::BadStream { .. } => 2,
             Status::NoSet => 3,
+            Status::Refused(_) => 4,
             Status::ReadFault => 5,
             Status::WriteFault => 6,
             Status::TooLong(_) => 10,

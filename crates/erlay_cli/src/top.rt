@@ -1,14 +1,16 @@
 //! The top call.
 
-ghost use Rattle.std.specs.Prelude.{◌≡◌, ◌≢◌, ◌⊎◌, ◌≤◌, ℕ, List, IfOk, IfErr, Some, map};
+ghost use Rattle.std.specs.Prelude.{◌≡◌, ◌≢◌, ◌⊎◌, ◌≤◌, ℕ, List, false, IfOk, IfErr, map};
 ghost use Rattle.std.specs.String.{string_bytes};
 ghost use Rattle.erlay_base.specs.Causes.{HasRisen};
 ghost use Rattle.line_rules.specs.Lines.{line};
 ghost use Rattle.sketch_text_rules.specs.Faults.{out_of_memory_text};
+ghost use Rattle.node_rules.specs.declared.end.End.{End};
 ghost use Rattle.command_words.specs.Words.{HasForm, IsFormless};
 ghost use Rattle.erlay_cli.specs.Outside.{observation_of};
-ghost use Rattle.erlay_cli.specs.Answers.{IsReportOf, answer_to, answer_within_limit};
-ghost use Rattle.erlay_cli.specs.Ends.{IsEnding, IsWritten, IsAnswer, IsAnswerTo, IsSound};
+ghost use Rattle.erlay_cli.specs.Answers.{HasSettled, IsReportOf, answer_to, answer_within_limit};
+ghost use Rattle.erlay_cli.specs.Answers as answers;
+ghost use Rattle.erlay_cli.specs.Ends.{IsEnding, IsWritten, IsAnswer, IsAnswerTo, IsSound, IsTold};
 ghost use Rattle.erlay_cli.specs.Stops.{status_of, text_of};
 ghost use Rattle.command_words.specs.declared.command.Command.{Command};
 
@@ -19,6 +21,7 @@ use crate::merge::merge;
 use crate::pack::pack;
 use crate::report::{Report, Stop};
 use crate::show::show;
+use crate::sim::{generated, sim};
 use crate::status::Status;
 use command_words::{Command, command_of};
 use erlay_base::{ReadEnd, Sink, Source, read_all, write_all};
@@ -36,9 +39,17 @@ pub fn run<I: Source, O: Sink>(
         (IsAnswer (map string_bytes words.now) (observation_of I.left I.faults input.old) (observation_of I.left I.faults input.new))
         (observation_of O.written O.faults output.old) (observation_of O.written O.faults output.new) result }
 
-    // Where the input tells its bytes, they alone lead to the text and the status.
-    ensures told { (c : Command) (text : List ℕ) → HasForm (map string_bytes words.now) c → I.left input.old ≡ Some text
+    // Where the input tells the bytes that the command reads, they alone lead to the text and the status.
+    ensures told { (c : Command) (text : List ℕ) → HasForm (map string_bytes words.now) c → IsTold c (I.left input.old) text
         → IsEnding (IsAnswerTo c text) (observation_of O.written O.faults output.old) (observation_of O.written O.faults output.new) result }
+
+    // A command that reads nothing leaves the input as it was.
+    ensures unread { (c : Command) → HasForm (map string_bytes words.now) c → answers.is_reader c ≡ false → input.new ≡ input.old }
+
+    // Where two nodes were run, and what is told of them is that they are drained and neither has ended, every round is over on
+    // both sides and has left both its snapshots in both pools where it fits, and the reports of both sides agree.
+    ensures settled { (c : Command) (text : List ℕ) → HasForm (map string_bytes words.now) c → IsTold c (I.left input.old) text
+        → (result ≡ Status.Ok) ⊎ ((e : End) × (result ≡ Status.Refused e)) → HasSettled c text }
 
     // Usage comes exactly where the words have no form; then the input is as it was.
     ensures usage { result ≡ Status.Usage → IsFormless (map string_bytes words.now) }
@@ -53,7 +64,7 @@ pub fn run<I: Source, O: Sink>(
     ensures later { (I.faults input.old ≤ I.faults input.new) × (O.faults output.old ≤ O.faults output.new) }
 
     // With a sound input and no fault of the outside, nothing but want of memory keeps the command from its work.
-    ensures complete { (c : Command) (text : List ℕ) → HasForm (map string_bytes words.now) c → I.left input.old ≡ Some text → IsSound c text
+    ensures complete { (c : Command) (text : List ℕ) → HasForm (map string_bytes words.now) c → IsTold c (I.left input.old) text → IsSound c text
         → ¬ HasRisen (I.faults input.old) (I.faults input.new) → ¬ HasRisen (O.faults output.old) (O.faults output.new)
         → (result ≡ (answer_to c text).status) ⊎ (result ≡ Status.OutOfMemory) }
 {
@@ -75,12 +86,17 @@ pub fn stopped<O: Sink>(output: &mut O) -> Status
 fn answer<I: Source>(alloc: Global, words: &[String], input: &mut I) -> Result<Report, Stop>
     ensures ok { IfOk result (λ report. IsAnswer (map string_bytes words.now) (observation_of I.left I.faults input.old) (observation_of I.left I.faults input.new) report.status report.text.items) }
     ensures err { IfErr result (λ stop. IsAnswer (map string_bytes words.now) (observation_of I.left I.faults input.old) (observation_of I.left I.faults input.new) (status_of stop) (text_of stop)) }
+    ensures settled { IfOk result (λ report. (c : Command) (text : List ℕ) → HasForm (map string_bytes words.now) c → IsTold c (I.left input.old) text → HasSettled c text) }
+    ensures unread { (c : Command) → HasForm (map string_bytes words.now) c → answers.is_reader c ≡ false → input.new ≡ input.old }
     ensures untouched { IsFormless (map string_bytes words.now) → input.new ≡ input.old }
     ensures later { I.faults input.old ≤ I.faults input.new }
 {
     let Some(command) = command_of(words) else {
         return Err(Stop::Usage);
     };
+    if !is_reader(command) {
+        return work(alloc, command, &[]);
+    }
     match read_all(alloc, input, INPUT_LIMIT) {
         Ok(bytes) => work(alloc, command, bytes.as_slice()),
         Err(ReadEnd::Failed) => Err(Stop::ReadFault),
@@ -89,10 +105,19 @@ fn answer<I: Source>(alloc: Global, words: &[String], input: &mut I) -> Result<R
     }
 }
 
+/// Whether the command reads its input.
+#[tactic(auto, unfolding(crate::specs::Answers::is_reader))]
+fn is_reader(command: Command) -> bool
+    ensures { result ≡ answers.is_reader command }
+{
+    !matches!(command, Command::Gen(_))
+}
+
 /// Does the command's work on an input within the limit.
 fn work(alloc: Global, command: Command, input: &[u8]) -> Result<Report, Stop>
     requires { (words : List (List ℕ)) × HasForm words command }
     ensures ok { IfOk result (λ report. IsReportOf report (answer_within_limit command input.now)) }
+    ensures settled { IfOk result (λ report. HasSettled command input.now) }
     ensures err { IfErr result (λ stop. stop ≡ Stop.OutOfMemory) }
 {
     let answered = match command {
@@ -102,6 +127,8 @@ fn work(alloc: Global, command: Command, input: &[u8]) -> Result<Report, Stop>
         Command::Ids { salt, other } => ids(alloc, salt, other, input),
         Command::Show => show(alloc, input),
         Command::Pack => pack(alloc, input),
+        Command::Sim => sim(alloc, input),
+        Command::Gen(number) => generated(alloc, number),
     };
     answered.map_err(|_| Stop::OutOfMemory)
 }

@@ -9,10 +9,10 @@ use std::test::Fail;
 
 /// How many bytes a call moves at most, and the number of the read and of the write that fails, 0 for none.
 #[derive(Clone, Copy)]
-struct Streams {
-    cut: usize,
-    failing_read: u64,
-    failing_write: u64,
+pub(crate) struct Streams {
+    pub(crate) cut: usize,
+    pub(crate) failing_read: u64,
+    pub(crate) failing_write: u64,
 }
 
 /// The numbers of the calls that fail.
@@ -36,7 +36,7 @@ fn arguments_of(alloc: Global, words: &str) -> Result<Vec<String>, AllocError> {
 }
 
 /// The exit code of the program for these words and this input, and the bytes that it wrote.
-fn outcome(
+pub(crate) fn outcome(
     alloc: Global,
     words: &str,
     bytes: &[u8],
@@ -53,7 +53,7 @@ fn outcome(
 }
 
 /// Words and an input, and what they lead to: an exit code and the bytes that are written.
-type Case = (&'static str, &'static [u8], u8, &'static [u8]);
+pub(crate) type Case = (&'static str, &'static [u8], u8, &'static [u8]);
 
 const SETS: &[Case] = &[
     ("make 3", b"00000001\n", 0, b"010000000100000001000000\n"),
@@ -536,7 +536,7 @@ const LINES: &[Case] = &[
 ];
 
 /// Compares the answer of each case, where streams move whole and a byte at a time.
-fn answer_each(rt: &impl Abort, alloc: Global, cases: &[Case]) -> Result<(), Fail> {
+pub(crate) fn answer_each(rt: &impl Abort, alloc: Global, cases: &[Case]) -> Result<(), Fail> {
     for (words, input, code, text) in cases {
         for cut in [1, 65536] {
             let streams = Streams {
@@ -584,6 +584,18 @@ const FAILING: &[Failing] = &[
     ("make 1", "1\n", 0, 1, 6, ""),
     ("make 1", "00000001\n", 1, 1, 6, ""),
     ("make 1", "00000001\n", 1, 5, 6, "read"),
+    ("sim", "drain\n", 1, 0, 5, "read fault\n"),
+    ("sim", "round", 0, 4, 6, "pha"),
+    // A script from a number is made without a read.
+    (
+        "gen 1",
+        "x",
+        1,
+        0,
+        0,
+        "a round 1 first 8 2 1\na round 2 first 8 0 0\nb round 1 first 8 1 0\nb round 2 first 8 0 0\nphase a idle\nphase b idle\npool a 2\npool b 2\ndrained yes\n",
+    ),
+    ("gen 1", "", 1, 1, 6, ""),
     // The empty set has no lines, and none is written.
     ("decode", "00000000", 0, 1, 0, ""),
 ];
@@ -638,6 +650,18 @@ const FORMLESS: &[&str] = &[
     "ids 0000000000000001 +000000000000002",
     "ids 0000000000000001 0000000000000002 0000000000000003",
     "Make 3",
+    "sim 1",
+    "sim sim",
+    "simulate",
+    "gen",
+    "gen ",
+    "gen 0",
+    "gen 01",
+    "gen +1",
+    "gen 10001",
+    "gen 18446744073709551617",
+    "gen x",
+    "gen 1 1",
 ];
 
 #[test]
@@ -702,6 +726,7 @@ const WIDE: &[Wide] = &[
     // one byte more than the limit of the input
     ("make 1", 67_108_865, b"", 10, "too long 67108864\n", 18),
     ("merge", 67_108_865, b"", 10, "too long 67108864\n", 18),
+    ("sim", 67_108_865, b"", 10, "too long 67108864\n", 18),
 ];
 
 #[test]
