@@ -35,7 +35,7 @@ fn report_of(
 }
 
 #[test]
-fn ends_have_known_texts(rt: HostRuntime) -> Result<(), Fail> {
+fn ends_by_a_fault_of_the_stream_have_known_texts(rt: HostRuntime) -> Result<(), Fail> {
     let alloc = rt.alloc();
     for (end, text) in [
         (
@@ -69,7 +69,17 @@ fn ends_have_known_texts(rt: HostRuntime) -> Result<(), Fail> {
             }),
             b"payload of sketch at 0: not minimal",
         ),
-        (End::OldPeer(70_015), b"old peer 70015"),
+    ] {
+        assert_eq!(rt; end_text(alloc, &end)?.as_slice(), text);
+    }
+    Ok(())
+}
+
+#[test]
+fn ends_by_a_message_have_known_texts(rt: HostRuntime) -> Result<(), Fail> {
+    let alloc = rt.alloc();
+    for (end, text) in [
+        (End::OldPeer(70_015), b"old peer 70015".as_slice()),
         (End::OldPeer(-1), b"old peer -1"),
         (End::PeerNoRelay, b"peer no relay"),
         (End::NoWtxidRelay, b"no wtxidrelay"),
@@ -101,6 +111,12 @@ fn ends_have_known_texts(rt: HostRuntime) -> Result<(), Fail> {
     ] {
         assert_eq!(rt; end_text(alloc, &end)?.as_slice(), text);
     }
+    Ok(())
+}
+
+#[test]
+fn refusals_have_known_texts(rt: HostRuntime) -> Result<(), Fail> {
+    let alloc = rt.alloc();
     assert_eq!(rt;
         refused_text(alloc, &End::PoolFull)?.as_slice(),
         b"refused pool full".as_slice()
