@@ -3,9 +3,10 @@
 
   bench/asks.py [--keep]
 
-A row of what is printed has how many there are, the best of several rounds in milliseconds of processor time, and the time
-over that of half as many. The asks come in the opposite order of the members, all are found, and all ids are announced. The
-script fails where twice as many take more than 2.5 times as long.
+A row of what is printed has how many there are, the best of many runs in milliseconds of processor time, and the time over
+that of half as many. Each run is a process of its own, so that every set lies in fresh memory. The asks come in the opposite
+order of the members, all are found, and all ids are announced. The script fails where twice as many take more than 2.5 times
+as long.
 
 The calls are timed by a program of its own, which is laid out beside copies of the crates in a temporary folder, proved
 and built there (some minutes the first time), and run.
@@ -15,15 +16,15 @@ import sys
 sys.dont_write_bytecode = True
 from timed import is_kept, lines_of
 
-USES = ["base_types", "field_core", "wire_rules", "pool_rules", "recon_set", "responder"]
+USES = ["base_types", "clmul_lanes", "wire_rules", "pool_rules", "recon_set", "responder"]
 COUNTS = [3125, 6250, 12500, 25000, 50000]
-ROUNDS = 7
+RUNS = 25
 
 PROGRAM = r'''//! Times the accepter's answer to a difference.
 #![tactic(auto)]
 
 use base_types::{Hash32, OutOfMemory, Shorts};
-use field_core::Gf32;
+use clmul_lanes::Lane32;
 use pool_rules::POOL_LIMIT;
 use recon_set::ReconSet;
 use responder::{Responder, ResponderFault};
@@ -38,7 +39,7 @@ fn short_of(number: u32) -> u32 {
 }
 
 /// A set of so many ids, each of its number.
-fn set_of(alloc: Global, count: u32) -> Result<ReconSet<Gf32>, OutOfMemory> {
+fn set_of(alloc: Global, count: u32) -> Result<ReconSet<Lane32>, OutOfMemory> {
     let mut set = ReconSet::empty(alloc);
     for i in 0..count {
         let mut bytes = [0; 32];
@@ -89,10 +90,8 @@ fn print_answer(rt: &HostRuntime, count: u32) -> io::Result<()> {
 }
 
 fn main(rt: HostRuntime) -> io::Result<()> {
-    for _ in 0..[ROUNDS] {
-        for count in [[COUNTS]] {
-            print_answer(&rt, count)?;
-        }
+    for count in [[COUNTS]] {
+        print_answer(&rt, count)?;
     }
     Ok(())
 }
@@ -100,9 +99,9 @@ fn main(rt: HostRuntime) -> io::Result<()> {
 
 
 def main():
-    program = PROGRAM.replace("[ROUNDS]", str(ROUNDS)).replace("[COUNTS]", ", ".join(map(str, COUNTS)))
+    program = PROGRAM.replace("[COUNTS]", ", ".join(map(str, COUNTS)))
     best = {}
-    for line in lines_of(program, USES, is_kept(__doc__)):
+    for line in lines_of(program, USES, is_kept(__doc__), RUNS):
         count, start, end, announced = map(int, line.split())
         if announced != count:
             sys.exit(f"{announced} ids are announced where {count} are asked for")

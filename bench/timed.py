@@ -43,16 +43,20 @@ def lay_out(folder, program, uses):
         file.write(program)
 
 
-def lines_of(program, uses, keep):
-    """The lines that the program writes, once it is proved and built."""
+def lines_of(program, uses, keep, runs=1):
+    """The lines that the program writes, once it is proved and built, in so many runs, each of a process of its own."""
     folder = tempfile.mkdtemp(prefix="erlay-bench-")
+    crate = os.path.join(folder, "crates/timed")
     try:
         lay_out(folder, program, uses)
-        ran = subprocess.run(["rt", "run"], cwd=os.path.join(folder, "crates/timed"), stdin=subprocess.DEVNULL,
-                             stdout=subprocess.PIPE, stderr=subprocess.PIPE, text=True)
-        if ran.returncode != 0:
-            sys.exit(ran.stdout + ran.stderr)
-        return ran.stdout.splitlines()
+        lines = []
+        for command in [["rt", "run"]] + [["out/timed"]] * (runs - 1):
+            ran = subprocess.run(command, cwd=crate, stdin=subprocess.DEVNULL,
+                                 stdout=subprocess.PIPE, stderr=subprocess.PIPE, text=True)
+            if ran.returncode != 0:
+                sys.exit(ran.stdout + ran.stderr)
+            lines += ran.stdout.splitlines()
+        return lines
     finally:
         if keep:
             print(folder)
