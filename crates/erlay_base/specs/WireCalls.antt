@@ -1,9 +1,15 @@
 -- What the calls of a wire do to its link.
-use Rattle.std.specs.Prelude.{◌≡◌, ◌⊎◌, ℕ, ◌<◌, Bool, true, List, [], ◌∷◌, ◌++◌, length, take, Result, Ok, Err}
+use Rattle.std.specs.Prelude.{◌≡◌, ◌⊎◌, ⊤, ℕ, ◌<◌, Bool, true, List, [], ◌∷◌, ◌++◌, length, take, None, Some, Result, Ok, Err}
+use Rattle.std.specs.declared.option.Option.{Option}
 use Rattle.link_rules.specs.Links.{Link, Call, new_link}
 
 abbrev pub with_call : Call → Link → Link
 with_call call l = record l { calls = l.calls ++ call ∷ [] }
+
+-- a link of which nothing was used yet, where the wire tells it
+abbrev pub IsUnused : Option Link → Type 0
+IsUnused None = ⊤
+IsUnused (Some link) = link ≡ new_link link.calls link.coming
 
 -- a call that failed made no link and moved no bytes. It may be missing from the list of calls
 abbrev pub IsFailedCall : Call → Link → Link → Type 0

@@ -1,13 +1,13 @@
 //! A wire over given bytes.
 
-ghost use Rattle.std.specs.Prelude.{◌≡◌, ◌≤◌, ◌<◌, ◌∷◌, ◌++◌, [], true, false, IfOk, IsErr, OnErr, OnOk, length, map, min, take};
+ghost use Rattle.std.specs.Prelude.{◌≡◌, ◌≤◌, ◌<◌, ◌∷◌, ◌++◌, Some, [], true, false, IfOk, IsErr, OnErr, OnOk, length, map, min, take};
 ghost use Rattle.std.specs.List.{Contains};
 ghost use Rattle.std.specs.Io.{ReadsAtMost, WritesAtMost};
 ghost use Rattle.link_rules.specs.Links.{ConnectCall, ListenCall, AcceptCall};
 ghost use Rattle.erlay_base.specs.Causes.{HasCause, next_count, count_if_failed};
 ghost use Rattle.erlay_base.specs.LinkFakes.{call_of, coming_on_link, has_ended_input, piece_of, told_link};
 ghost use Rattle.erlay_base.specs.Moves.{HasProgress};
-ghost use Rattle.erlay_base.specs.WireCalls.{IsStarted, IsListened, IsReceived, IsSent, IsEndTold};
+ghost use Rattle.erlay_base.specs.WireCalls.{IsUnused, IsStarted, IsListened, IsReceived, IsSent, IsEndTold};
 
 use crate::Wire;
 use crate::calls::{fault, is_over_after, is_to_fail};
@@ -136,6 +136,7 @@ impl Wire for MemWire {
 
     fn connect(&mut self, address: &str) -> Result<(), Failed>
         ensures link { IsStarted result (ConnectCall address.now) (told_link self.old) (told_link self.new) }
+        ensures unused { OnOk result (IsUnused (Some (told_link self.new))) }
         ensures linked { OnOk result (self.new.is_linked ≡ true) }
         ensures fresh { OnOk result (has_ended_input self.new.is_linked self.new.is_over ≡ false) }
         ensures still_linked { OnErr result (self.new.is_linked ≡ self.old.is_linked) }
@@ -179,6 +180,7 @@ impl Wire for MemWire {
     fn accept(&mut self) -> Result<(), Failed>
         requires { self.old.is_listening ≡ true }
         ensures link { IsStarted result AcceptCall (told_link self.old) (told_link self.new) }
+        ensures unused { OnOk result (IsUnused (Some (told_link self.new))) }
         ensures linked { OnOk result (self.new.is_linked ≡ true) }
         ensures fresh { OnOk result (has_ended_input self.new.is_linked self.new.is_over ≡ false) }
         ensures still_linked { OnErr result (self.new.is_linked ≡ self.old.is_linked) }

@@ -7,7 +7,7 @@ ghost use Rattle.link_rules.specs.Links.{Link, ConnectCall, ListenCall, AcceptCa
 ghost use Rattle.erlay_base.specs.Causes.{HasCause};
 ghost use Rattle.erlay_base.specs.Moves.{HasProgress};
 ghost use Rattle.erlay_base.specs.Told.{AreTold};
-ghost use Rattle.erlay_base.specs.WireCalls.{IsStarted, IsListened, IsReceived, IsSent, IsEndTold};
+ghost use Rattle.erlay_base.specs.WireCalls.{IsUnused, IsStarted, IsListened, IsReceived, IsSent, IsEndTold};
 
 use base_types::Failed;
 
@@ -40,6 +40,7 @@ pub trait Wire {
     /// and its input hasn't ended.
     fn connect(&mut self, address: &str) -> Result<(), Failed>
         ensures link { AreTold (link self.old) (link self.new) (IsStarted result (ConnectCall address.now)) }
+        ensures unused { OnOk result (IsUnused (link self.new)) }
         ensures linked { OnOk result (is_linked self.new ≡ true) }
         ensures fresh { OnOk result (has_ended self.new ≡ false) }
         ensures still_linked { OnErr result (is_linked self.new ≡ is_linked self.old) }
@@ -61,6 +62,7 @@ pub trait Wire {
     fn accept(&mut self) -> Result<(), Failed>
         requires { is_listening self.old ≡ true }
         ensures link { AreTold (link self.old) (link self.new) (IsStarted result AcceptCall) }
+        ensures unused { OnOk result (IsUnused (link self.new)) }
         ensures linked { OnOk result (is_linked self.new ≡ true) }
         ensures fresh { OnOk result (has_ended self.new ≡ false) }
         ensures still_linked { OnErr result (is_linked self.new ≡ is_linked self.old) }

@@ -21,7 +21,8 @@ use Rattle.session_rules.specs.declared.limits.TheConstants.{SESSION_LIMIT}
 use Rattle.session_rules.specs.declared.session_end.SessionEnd.{SessionEnd}
 use Rattle.session_rules.specs.declared.session_end.SessionEnd.TheVariants as session_end
 use Rattle.erlay_base.specs.Told.{AreTold}
-use Rattle.session.specs.Sessions.{HasCauseOfFault, HasSession, IsBusyIn, IsNew, IsReceivedInTime, IsSessionBy, IsUnused, end_in, is_input_over, new_node}
+use Rattle.erlay_base.specs.WireCalls.{IsUnused}
+use Rattle.session.specs.Sessions.{HasCauseOfFault, HasSession, IsBusyIn, IsNew, IsReceivedInTime, IsSessionBy, end_in, is_input_over, new_node}
 use Rattle.session.specs.Standing.{IsAt, IsLeft, IsLinkSince, IsOver, IsStanding, is_opener}
 use Rattle.session.proofs.Links.{first-link}
 

@@ -3,8 +3,7 @@ use Rattle.std.proofs.Common.{◌≡◌, ℕ, ◌<◌, false, true, List, [], �
 use Rattle.std.specs.List.{concat}
 use Rattle.link_rules.specs.Links.{Link, Piece, bytes_of_pieces, new_link, received_bytes}
 use Rattle.erlay_base.specs.Told.{AreTold}
-use Rattle.erlay_base.specs.WireCalls.{IsReceivedPiece}
-use Rattle.session.specs.Sessions.{IsUnused}
+use Rattle.erlay_base.specs.WireCalls.{IsReceivedPiece, IsUnused}
 use Rattle.session.specs.Standing.{IsLinkSince}
 use Rattle.session.proofs.Pieces.{received-append}
 

@@ -1,7 +1,7 @@
 -- What a session of a node over a wire leaves, also where the wire doesn't tell its link.
 use Rattle.std.specs.Prelude.{◌≡◌, ◌≢◌, ⊤, ℕ, ◌≤◌, ◌++◌, Bool, true, false, List, length, Some, None}
 use Rattle.std.specs.declared.option.Option.{Option}
-use Rattle.link_rules.specs.Links.{Link, new_link, received_bytes}
+use Rattle.link_rules.specs.Links.{Link, received_bytes}
 use Rattle.wire_rules.specs.Layout.{wire_bytes}
 use Rattle.pool_rules.specs.Pools.{Transaction}
 use Rattle.node_rules.specs.Handshake.{opening_messages}
@@ -27,11 +27,6 @@ new_node c pool = record { state = opening_state c pool; outbox = wire_bytes c.m
 -- a node of which nothing was used yet
 abbrev pub IsNew : NodeView → Type 0
 IsNew v = v ≡ new_node v.state.config v.state.pool
-
--- a link of which nothing was used yet, where the wire tells it
-abbrev pub IsUnused : Option Link → Type 0
-IsUnused None = ⊤
-IsUnused (Some link) = link ≡ new_link link.calls link.coming
 
 -- ---- what each answer says
 

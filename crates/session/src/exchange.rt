@@ -7,7 +7,8 @@ ghost use Rattle.session_rules.specs.Session.{Session};
 ghost use Rattle.session_rules.specs.declared.limits.TheConstants.{PIECE_LIMIT, SESSION_LIMIT};
 ghost use Rattle.session_rules.specs.declared.session_end.SessionEnd.TheVariants as session_end;
 ghost use Rattle.erlay_base.specs.Causes.{HasCause};
-ghost use Rattle.session.specs.Sessions.{HasCauseOfFault, HasSession, IsBusyIn, IsNew, IsUnused, end_in, is_input_over};
+ghost use Rattle.erlay_base.specs.WireCalls.{IsUnused};
+ghost use Rattle.session.specs.Sessions.{HasCauseOfFault, HasSession, IsBusyIn, IsNew, end_in, is_input_over};
 ghost use Rattle.session.specs.Standing.{IsReceipt, IsStanding, IsTurn, IsUnfinished, StandsThen};
 
 use crate::progress::Progress;

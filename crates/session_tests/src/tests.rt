@@ -2,7 +2,8 @@
 
 ghost use Rattle.std.specs.Prelude.{◌≡◌, true, false, Some, OnOk};
 ghost use Rattle.erlay_base.specs.LinkFakes.{has_ended_input, told_link};
-ghost use Rattle.session.specs.Sessions.{IsNew, IsUnused};
+ghost use Rattle.erlay_base.specs.WireCalls.{IsUnused};
+ghost use Rattle.session.specs.Sessions.{IsNew};
 
 use base_types::Bytes;
 use erlay_base::{Failed, MemWire, Wire};
