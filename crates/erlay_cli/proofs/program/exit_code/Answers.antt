@@ -1,5 +1,5 @@
 use Rattle.std.proofs.Common.{◌≡◌, ◌∙◌, ap, drop}
-use Rattle.erlay_cli.proofs.program.exit_code.Goals as goal
+use Rattle.text_commands.proofs.program.exit_code.Goals as goal
 
 pub returns-in-Ok-clause-ok : goal.returns-in-Ok-clause-ok
 returns-in-Ok-clause-ok g c =
