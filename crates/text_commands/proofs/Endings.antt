@@ -105,29 +105,52 @@ module _ (words : List (List ℕ)) (old new : Observation) (c : Command) (text :
   answer_told status.WriteFault t answer = absurd answer
 
 -- the end of a call whose text was written whole
-written_whole : (Answer : Status → List ℕ → Type 0) (old new : Observation) (end : Status) (text : List ℕ) → (Answer status.WriteFault text → ⊥)
+written_whole : (Answer : Status → List ℕ → Type 0) (old new : Observation) (end : Status) (text : List ℕ) → end ≢ status.WriteFault
     → Answer end text → Appends old.bytes new.bytes text → new.faults ≡ old.faults → IsEnding Answer old new end
-written_whole Answer old new status.WriteFault text none answer wrote quiet = absurd (none answer)
-written_whole Answer old new status.Ok text none answer wrote quiet = (text, answer, wrote, quiet)
-written_whole Answer old new status.Usage text none answer wrote quiet = (text, answer, wrote, quiet)
-written_whole Answer old new (status.BadInput place k) text none answer wrote quiet = (text, answer, wrote, quiet)
-written_whole Answer old new (status.BadStream offset k) text none answer wrote quiet = (text, answer, wrote, quiet)
-written_whole Answer old new status.NoSet text none answer wrote quiet = (text, answer, wrote, quiet)
-written_whole Answer old new (status.Refused e) text none answer wrote quiet = (text, answer, wrote, quiet)
-written_whole Answer old new status.LinkFault text none answer wrote quiet = (text, answer, wrote, quiet)
-written_whole Answer old new status.ShelfFault text none answer wrote quiet = (text, answer, wrote, quiet)
-written_whole Answer old new (status.Truncated p) text none answer wrote quiet = (text, answer, wrote, quiet)
-written_whole Answer old new (status.TooLong limit) text none answer wrote quiet = (text, answer, wrote, quiet)
-written_whole Answer old new status.ReadFault text none answer wrote quiet = (text, answer, wrote, quiet)
-written_whole Answer old new status.OutOfMemory text none answer wrote quiet = (text, answer, wrote, quiet)
+written_whole Answer old new status.WriteFault text other answer wrote quiet = absurd (other refl)
+written_whole Answer old new status.Ok text other answer wrote quiet = (text, answer, wrote, quiet)
+written_whole Answer old new status.Usage text other answer wrote quiet = (text, answer, wrote, quiet)
+written_whole Answer old new (status.BadInput place k) text other answer wrote quiet = (text, answer, wrote, quiet)
+written_whole Answer old new (status.BadStream offset k) text other answer wrote quiet = (text, answer, wrote, quiet)
+written_whole Answer old new status.NoSet text other answer wrote quiet = (text, answer, wrote, quiet)
+written_whole Answer old new (status.Refused e) text other answer wrote quiet = (text, answer, wrote, quiet)
+written_whole Answer old new status.LinkFault text other answer wrote quiet = (text, answer, wrote, quiet)
+written_whole Answer old new status.ShelfFault text other answer wrote quiet = (text, answer, wrote, quiet)
+written_whole Answer old new (status.Truncated p) text other answer wrote quiet = (text, answer, wrote, quiet)
+written_whole Answer old new (status.TooLong limit) text other answer wrote quiet = (text, answer, wrote, quiet)
+written_whole Answer old new status.ReadFault text other answer wrote quiet = (text, answer, wrote, quiet)
+written_whole Answer old new status.OutOfMemory text other answer wrote quiet = (text, answer, wrote, quiet)
 
 -- the end of a call that had an answer, and then wrote it
+pub finished_at : (Answer : Status → List ℕ → Type 0) (old new : Observation) (end : Status) (text : List ℕ) (result : Status) → end ≢ status.WriteFault
+    → Answer end text → IsWritten end text old new result → IsEnding Answer old new result
+finished_at Answer old new end text result other answer (inl (same, wrote, quiet)) =
+    subst (λ (r : Status). IsEnding Answer old new r) (sym same) (written_whole Answer old new end text other answer wrote quiet)
+finished_at Answer old new end text result other answer (inr (same, rose, part)) =
+    subst (λ (r : Status). IsEnding Answer old new r) (sym same) (rose, (end, text, answer, part))
+
+-- the same where no answer is a failed write
 pub finished : (Answer : Status → List ℕ → Type 0) (old new : Observation) (end : Status) (text : List ℕ) (result : Status) → (Answer status.WriteFault text → ⊥)
     → Answer end text → IsWritten end text old new result → IsEnding Answer old new result
-finished Answer old new end text result none answer (inl (same, wrote, quiet)) =
-    subst (λ (r : Status). IsEnding Answer old new r) (sym same) (written_whole Answer old new end text none answer wrote quiet)
-finished Answer old new end text result none answer (inr (same, rose, part)) =
-    subst (λ (r : Status). IsEnding Answer old new r) (sym same) (rose, (end, text, answer, part))
+finished Answer old new end text result none answer written =
+    finished_at Answer old new end text result (λ same. none (subst (λ (r : Status). Answer r text) same answer)) answer written
+
+-- what was answered in a call that ended with no failed write
+pub answered : (Answer : Status → List ℕ → Type 0) (old new : Observation) (end : Status) → end ≢ status.WriteFault → IsEnding Answer old new end
+    → (text : List ℕ) × Answer end text
+answered Answer old new status.WriteFault other ended = absurd (other refl)
+answered Answer old new status.Ok other ended = (ended.0, ended.1)
+answered Answer old new status.Usage other ended = (ended.0, ended.1)
+answered Answer old new (status.BadInput place k) other ended = (ended.0, ended.1)
+answered Answer old new (status.BadStream offset k) other ended = (ended.0, ended.1)
+answered Answer old new status.NoSet other ended = (ended.0, ended.1)
+answered Answer old new (status.Refused e) other ended = (ended.0, ended.1)
+answered Answer old new status.LinkFault other ended = (ended.0, ended.1)
+answered Answer old new status.ShelfFault other ended = (ended.0, ended.1)
+answered Answer old new (status.Truncated p) other ended = (ended.0, ended.1)
+answered Answer old new (status.TooLong limit) other ended = (ended.0, ended.1)
+answered Answer old new status.ReadFault other ended = (ended.0, ended.1)
+answered Answer old new status.OutOfMemory other ended = (ended.0, ended.1)
 
 -- ---- the answers of commands
 
@@ -136,6 +159,9 @@ abbrev IsOwn : Status → Type 0
 IsOwn status.Usage = ⊥
 IsOwn status.ReadFault = ⊥
 IsOwn status.WriteFault = ⊥
+IsOwn status.LinkFault = ⊥
+IsOwn status.ShelfFault = ⊥
+IsOwn (status.Truncated p) = ⊥
 IsOwn status.OutOfMemory = ⊥
 IsOwn end = Unit {0}
 
@@ -226,3 +252,20 @@ ends_as_answered c text old new status.ReadFault ended no_read no_write = absurd
 ends_as_answered c text old new status.WriteFault ended no_read no_write = absurd (no_write ended.0)
 ends_as_answered c text old new status.OutOfMemory ended no_read no_write = inr refl
 ends_as_answered c text old new end ended no_read no_write = inl ended.1.0
+
+-- no command ends with a status of the wire or of the shelf
+abbrev pub IsInputStatus : Status → Type 0
+IsInputStatus status.LinkFault = ⊥
+IsInputStatus status.ShelfFault = ⊥
+IsInputStatus (status.Truncated p) = ⊥
+IsInputStatus other = Unit {0}
+
+taken_own : (reads : Bool) (c : Command) (old new : Observation) (end : Status) (t : List ℕ) → HasTaken reads old new (λ input. HasAnswer c input end t) → IsOwn end
+taken_own true c old new end t (input, consumes, either, quiet, leads) = subst IsOwn (sym leads.0) (answer_own c input (is_reader c) refl)
+taken_own false c old new end t (same, leads) = subst IsOwn (sym leads.0) (answer_own c [] (is_reader c) refl)
+
+pub input_status : (words : List (List ℕ)) (old new out_old out_new : Observation) (result : Status) → IsEnding (IsAnswer words old new) out_old out_new result → IsInputStatus result
+input_status words old new out_old out_new status.LinkFault ended = taken_own (is_reader ended.1.0) ended.1.0 old new status.LinkFault ended.0 ended.1.2
+input_status words old new out_old out_new status.ShelfFault ended = taken_own (is_reader ended.1.0) ended.1.0 old new status.ShelfFault ended.0 ended.1.2
+input_status words old new out_old out_new (status.Truncated p) ended = taken_own (is_reader ended.1.0) ended.1.0 old new (status.Truncated p) ended.0 ended.1.2
+input_status words old new out_old out_new end ended = tt

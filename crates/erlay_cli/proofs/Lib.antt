@@ -1,0 +1,4 @@
+pub mod Reports
+pub mod Stages
+pub mod Written
+pub mod Words
