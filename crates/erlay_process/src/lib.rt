@@ -2,6 +2,8 @@
 #![tactic(auto)]
 
 #[cfg(test)]
+mod process_tests;
+#[cfg(test)]
 mod script_tests;
 #[cfg(test)]
 mod tests;
@@ -38,18 +40,17 @@ fn chance_of<R: RandomSource + Clock>(rt: &R) -> io::Result<Chance> {
     })
 }
 
-/// Runs the program over its standard streams, TCP and files. Where the system gives no random bytes or no time, it ends as
-/// for want of memory.
-pub fn start(rt: HostRuntime) -> ExitCode {
+/// Runs the program over its standard streams, TCP and files, and answers its exit code. Where the system gives no random
+/// bytes or no time, it ends as for want of memory.
+fn code_of(rt: &HostRuntime, arguments: io::Result<Vec<String>>) -> u8 {
     let mut input = StdSource::new(rt.reader());
-    let mut output = StdSink::new(io::writer(&rt));
-    let mut wire = TcpWire::new(&rt);
-    let mut shelf = DirShelf::new(&rt);
-    let Ok(chance) = chance_of(&rt) else {
-        return ExitCode::from(stopped(&mut output).code());
+    let mut output = StdSink::new(io::writer(rt));
+    let mut wire = TcpWire::new(rt);
+    let mut shelf = DirShelf::new(rt);
+    let Ok(chance) = chance_of(rt) else {
+        return stopped(&mut output).code();
     };
-    let arguments = arguments_of(&rt);
-    let code = exit_code(
+    exit_code(
         rt.alloc(),
         arguments,
         chance,
@@ -57,6 +58,10 @@ pub fn start(rt: HostRuntime) -> ExitCode {
         &mut output,
         &mut wire,
         &mut shelf,
-    );
-    ExitCode::from(code)
+    )
+}
+
+/// Runs the program with the arguments of its process.
+pub fn start(rt: HostRuntime) -> ExitCode {
+    ExitCode::from(code_of(&rt, arguments_of(&rt)))
 }
