@@ -1,4 +1,3 @@
 pub mod Reports
 pub mod Stages
-pub mod Written
-pub mod Words
+pub mod Forms

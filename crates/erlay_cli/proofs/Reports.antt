@@ -1,5 +1,5 @@
 -- What the status of an exchange tells of how far it came.
-use Rattle.std.proofs.Common.{◌≡◌, ◌≢◌, ◌⊎◌, inl, inr, ℕ, ◌<◌, ◌≤◌, Bool, true, List, length, refl, sym, ap, ◌∙◌, subst, arith, Some, None, MatchOption, Ok, Err}
+use Rattle.std.proofs.Common.{◌≡◌, ◌≢◌, ◌⊎◌, inl, inr, ℕ, ◌<◌, ◌≤◌, Bool, true, List, [], length, refl, sym, ap, ◌∙◌, subst, arith, Some, None, MatchOption, Ok, Err}
 use Rattle.std.specs.declared.option.Option.{Option}
 use Rattle.link_rules.specs.Links.{Link}
 use Rattle.link_rules.specs.Shelves.{Shelf, content_of}
@@ -10,6 +10,7 @@ use Rattle.pool_rules.specs.Pools.{Transaction}
 use Rattle.pool_rules.specs.declared.limits.TheConstants.{POOL_FILE_LIMIT}
 use Rattle.base_types.specs.declared.text.TextFault.{TextFault}
 use Rattle.node_rules.specs.declared.config.Config.{Config}
+use Rattle.node_rules.specs.declared.config.Role.{Role}
 use Rattle.session_rules.specs.declared.session_end.SessionEnd.{SessionEnd}
 use Rattle.session_rules.specs.declared.session_end.SessionEnd.TheVariants as session_end
 use Rattle.session.specs.Sessions.{is_input_over}
@@ -18,11 +19,13 @@ use Rattle.pool_session.specs.declared.loading.PoolStop.{PoolStop}
 use Rattle.pool_session.specs.declared.loading.PoolStop.TheVariants as pool_stop
 use Rattle.pool_session.specs.declared.outcome.Outcome.{Outcome}
 use Rattle.pool_session.specs.declared.outcome.Outcome.TheVariants as outcome
+use Rattle.text_commands.specs.Ends.{IsWritten}
+use Rattle.text_commands.specs.Outside.{Observation}
 use Rattle.text_commands.specs.declared.status.Status.{Status}
 use Rattle.text_commands.specs.declared.status.Status.TheVariants as status
-use Rattle.erlay_cli.specs.Courses.{HasCounts, HasCourse, HasLoadedCourse, HasSessionCourse, IsReported, IsSpelled, IsSpelledEnd, status_of, status_of_end}
+use Rattle.erlay_cli.specs.Courses.{HasCounts, HasCourse, HasLoadedCourse, HasSessionCourse, IsAnnounced, IsReported, IsSpelled, IsSpelledEnd, status_of, status_of_end}
 use Rattle.erlay_cli.specs.Exchanges.{Exchange, config_of}
-use Rattle.erlay_cli.specs.Runs.{HasSoundFile, IsExchangeAnswer, IsSessionStatus}
+use Rattle.erlay_cli.specs.Runs.{HasSoundFile, IsExchangeEnding, IsSessionStatus}
 use Rattle.erlay_cli.specs.Sights.{ShelfSight, WireSight}
 use Rattle.erlay_cli.specs.declared.chance.Chance.{Chance}
 use Rattle.erlay_cli.specs.declared.course.Course.{Course}
@@ -53,8 +56,8 @@ spelled_quiet (course.Over (outcome.Ended session_end.LinkFault)) spelled = absu
 spelled_quiet (course.Over (outcome.Ended session_end.SessionLimit)) spelled = absurd spelled
 spelled_quiet (course.Over (outcome.Ended session_end.OutOfMemory)) spelled = absurd spelled
 
--- the counts by the status that is answered
-pub reported_counts : (reached : Course) (end : Status) (text : List ℕ) (w v : WireSight) (s t : ShelfSight) → HasCounts (status_of reached) w v s t → IsReported reached end text
+-- the counts by the status of what is written
+reported_counts : (reached : Course) (end : Status) (text : List ℕ) (w v : WireSight) (s t : ShelfSight) → HasCounts (status_of reached) w v s t → IsReported reached end text
     → HasCounts end w v s t
 reported_counts reached end text w v s t counts (inl same) = subst (λ (e : Status). HasCounts e w v s t) (sym same.0) counts
 reported_counts reached end text w v s t counts (inr (spelled, starved, line)) =
@@ -94,7 +97,7 @@ course_status (course.Over (outcome.Saved text)) = tt
 course_status (course.Over outcome.Unsaved) = tt
 course_status (course.Over (outcome.Ended e)) = end_status e
 
-pub reported_status : (reached : Course) (end : Status) (text : List ℕ) → IsReported reached end text → IsExchangeStatus end
+reported_status : (reached : Course) (end : Status) (text : List ℕ) → IsReported reached end text → IsExchangeStatus end
 reported_status reached end text (inl same) = subst IsExchangeStatus (sym same.0) (course_status reached)
 reported_status reached end text (inr (spelled, starved, line)) = subst IsExchangeStatus (sym starved) tt
 
@@ -124,12 +127,9 @@ ended_input (course.Over (outcome.Ended session_end.LinkFault)) x c w v s t has 
 ended_input (course.Over (outcome.Ended session_end.SessionLimit)) x c w v s t has cut = absurd cut
 ended_input (course.Over (outcome.Ended session_end.OutOfMemory)) x c w v s t has cut = absurd cut
 
-pub truncated_input : (x : Exchange) (chance : Chance) (w v : WireSight) (s t : ShelfSight) (p : Phase) (text : List ℕ) → IsExchangeAnswer x chance w v s t (status.Truncated p) text
-    → v.ended ≡ true
-truncated_input x chance w v s t p text answer = elim answer.reported [
-  | inl same ↦ ended_input answer.reached x (config_of x.role chance) w v s.told t.told answer.course (subst IsCut same.0 tt)
-  | inr (spelled, starved, line) ↦ cc starved
-]
+reported_cut : (reached : Course) (end : Status) (text : List ℕ) → IsReported reached end text → IsCut end → IsCut (status_of reached)
+reported_cut reached end text (inl same) cut = subst IsCut same.0 cut
+reported_cut reached end text (inr (spelled, starved, line)) cut = absurd (subst IsCut starved cut)
 
 -- ---- where no call of the outside failed and the pool file is sound
 
@@ -172,9 +172,92 @@ module _ (x : Exchange) (chance : Chance) (w v : WireSight) (s t : ShelfSight) (
   by_course (course.Over o) end has counts same other = over o end has counts same
 
   -- the status is that of the session, or memory ran out
-  pub session_status : (end : Status) (text : List ℕ) → IsExchangeAnswer x chance w v s t end text → end ≢ status.WriteFault
-      → IsSessionStatus x chance w v s t end ⊎ (end ≡ status.OutOfMemory)
-  session_status end text answer other = elim answer.reported [
-    | inl same ↦ by_course answer.reached end answer.course answer.counts same.0 other
-    | inr (spelled, starved, line) ↦ inr starved
-  ]
+  session_status : (reached : Course) (end : Status) (text : List ℕ) → HasCourse reached x (config_of x.role chance) w v s.told t.told → HasCounts (status_of reached) w v s t
+      → IsReported reached end text → end ≢ status.WriteFault → IsSessionStatus x chance w v s t end ⊎ (end ≡ status.OutOfMemory)
+  session_status reached end text has counts (inl same) other = by_course reached end has counts same.0 other
+  session_status reached end text has counts (inr (spelled, starved, line)) other = inr starved
+
+-- ---- how an exchange ends
+
+-- a status that isn't that of a failed write is that of what was written
+written_status : (end : Status) (text : List ℕ) (m p : Observation) (result : Status) → IsWritten end text m p result → result ≢ status.WriteFault
+    → (result ≡ end) × (p.faults ≡ m.faults)
+written_status end text m p result (inl (same, wrote, quiet)) other = (same, quiet)
+written_status end text m p result (inr (same, rose, part)) other = absurd (other same)
+
+abbrev IsNoWriteFault : Status → Type 0
+IsNoWriteFault status.WriteFault = ⊥
+IsNoWriteFault other = Unit {0}
+
+end_writes : (e : SessionEnd) → IsNoWriteFault (status_of_end e)
+end_writes session_end.Done = tt
+end_writes (session_end.Refused e) = tt
+end_writes (session_end.Truncated p) = tt
+end_writes session_end.LinkFault = tt
+end_writes session_end.SessionLimit = tt
+end_writes session_end.OutOfMemory = tt
+
+reported_writes : (reached : Course) (end : Status) (text : List ℕ) → IsReported reached end text → IsNoWriteFault (status_of reached) → IsNoWriteFault end
+reported_writes reached end text (inl same) writes = subst IsNoWriteFault (sym same.0) writes
+reported_writes reached end text (inr (spelled, starved, line)) writes = subst IsNoWriteFault (sym starved) tt
+
+-- the output's count of faults rose exactly where a failed write is told
+pub record HasOutputCount (o p : Observation) (result : Status) : Type 0 where
+  pub fault : result ≡ status.WriteFault → HasRisen o.faults p.faults
+  pub no_fault : result ≢ status.WriteFault → p.faults ≡ o.faults
+
+-- behind an announcement that was written
+behind : (o m p : Observation) (end result : Status) (text : List ℕ) → m.faults ≡ o.faults → IsNoWriteFault end → IsWritten end text m p result → HasOutputCount o p result
+behind o m p end result text quiet writes (inl (same, wrote, still)) =
+    record { fault = λ fault. absurd (subst IsNoWriteFault (sym same ∙ fault) writes); no_fault = λ other. still ∙ quiet }
+behind o m p end result text quiet writes (inr (same, rose, part)) =
+    record { fault = λ fault. subst (λ (n : ℕ). HasRisen n p.faults) quiet rose; no_fault = λ other. absurd (other same) }
+
+-- behind one that failed nothing is written
+behind_none : (o m p : Observation) (end result : Status) (text : List ℕ) → HasRisen o.faults m.faults → end ≡ status.WriteFault → text ≡ [] → IsWritten end text m p result
+    → HasOutputCount o p result
+behind_none o m p end result text rose fault none (inl (same, wrote, still)) =
+    record { fault = λ _. subst (λ (n : ℕ). HasRisen o.faults n) (sym still) rose; no_fault = λ other. absurd (other (same ∙ fault)) }
+behind_none o m p end result text rose fault none (inr (same, again, (n, below, part))) =
+    absurd (omega (arith, subst (λ (bytes : List ℕ). n < length bytes) none below))
+
+output_count : (r : Role) (reached : Course) (o m p : Observation) (end result : Status) (text : List ℕ) → IsAnnounced r reached o m → IsReported reached end text
+    → IsWritten end text m p result → HasOutputCount o p result
+unfolding IsAnnounced
+output_count r course.Unannounced o m p end result text announced (inl same) written = behind_none o m p end result text announced.0 same.0 same.1 written
+output_count r course.Unannounced o m p end result text announced (inr starved) written = absurd starved.0
+output_count r (course.Unloaded (pool_stop.Fault f)) o m p end result text announced reported written = behind o m p end result text announced.1 (reported_writes (course.Unloaded (pool_stop.Fault f)) end text reported tt) written
+output_count r (course.Unloaded pool_stop.TooLong) o m p end result text announced reported written = behind o m p end result text announced.1 (reported_writes (course.Unloaded pool_stop.TooLong) end text reported tt) written
+output_count r (course.Unloaded pool_stop.ShelfFault) o m p end result text announced reported written = behind o m p end result text announced.1 (reported_writes (course.Unloaded pool_stop.ShelfFault) end text reported tt) written
+output_count r (course.Unloaded pool_stop.OutOfMemory) o m p end result text announced reported written = behind o m p end result text announced.1 (reported_writes (course.Unloaded pool_stop.OutOfMemory) end text reported tt) written
+output_count r course.Unlinked o m p end result text announced reported written = behind o m p end result text announced.1 (reported_writes course.Unlinked end text reported tt) written
+output_count r course.Unaccepted o m p end result text announced reported written = behind o m p end result text announced.1 (reported_writes course.Unaccepted end text reported tt) written
+output_count r course.Starved o m p end result text announced reported written = behind o m p end result text announced.1 (reported_writes course.Starved end text reported tt) written
+output_count r (course.Over (outcome.Saved told)) o m p end result text announced reported written = behind o m p end result text announced.1 (reported_writes (course.Over (outcome.Saved told)) end text reported tt) written
+output_count r (course.Over outcome.Unsaved) o m p end result text announced reported written = behind o m p end result text announced.1 (reported_writes (course.Over outcome.Unsaved) end text reported tt) written
+output_count r (course.Over (outcome.Ended e)) o m p end result text announced reported written = behind o m p end result text announced.1 (reported_writes (course.Over (outcome.Ended e)) end text reported (end_writes e)) written
+
+pub ended_output : (x : Exchange) (chance : Chance) (w v : WireSight) (s t : ShelfSight) (o p : Observation) (result : Status) → IsExchangeEnding x chance w v s t o p result
+    → HasOutputCount o p result
+ended_output x chance w v s t o p result ended =
+    output_count x.role ended.reached o ended.middle p ended.end result ended.text ended.announced ended.reported ended.written
+
+module _ (x : Exchange) (chance : Chance) (w v : WireSight) (s t : ShelfSight) (o p : Observation) (result : Status)
+    (ended : IsExchangeEnding x chance w v s t o p result) (other : result ≢ status.WriteFault) where
+  same_status : result ≡ ended.end
+  same_status = (written_status ended.end ended.text ended.middle p result ended.written other).0
+
+  reported : IsReported ended.reached result ended.text
+  reported = subst (λ (e : Status). IsReported ended.reached e ended.text) (sym same_status) ended.reported
+
+  pub ended_counts : HasCounts result w v s t
+  ended_counts = reported_counts ended.reached result ended.text w v s t ended.counts reported
+
+  pub ended_status : IsExchangeStatus result
+  ended_status = reported_status ended.reached result ended.text reported
+
+  pub ended_cut : IsCut result → v.ended ≡ true
+  ended_cut cut = ended_input ended.reached x (config_of x.role chance) w v s.told t.told ended.course (reported_cut ended.reached result ended.text reported cut)
+
+  pub ended_sound : HasSoundFile s.told x.pool → ¬ HasRisen w.faults v.faults → ¬ HasRisen s.faults t.faults → IsSessionStatus x chance w v s t result ⊎ (result ≡ status.OutOfMemory)
+  ended_sound sound no_link no_shelf = session_status x chance w v s t sound no_link no_shelf ended.reached result ended.text ended.course ended.counts reported other

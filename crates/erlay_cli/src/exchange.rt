@@ -2,11 +2,10 @@
 
 ghost use Rattle.std.specs.Prelude.{◌≡◌, false, true};
 ghost use Rattle.erlay_base.specs.WireCalls.{IsUnused};
-ghost use Rattle.text_commands.specs.Ends.{IsEnding};
 ghost use Rattle.text_commands.specs.Outside.{observation_of};
 ghost use Rattle.erlay_cli.specs.Courses.{HasCounts, HasCourse, HasLoadedCourse, HasSessionCourse, IsAnnounced, status_of};
 ghost use Rattle.erlay_cli.specs.Exchanges as exchanges;
-ghost use Rattle.erlay_cli.specs.Runs.{IsExchangeAnswer};
+ghost use Rattle.erlay_cli.specs.Runs.{IsExchangeEnding};
 ghost use Rattle.erlay_cli.specs.Sights.{shelf_sight, wire_sight};
 
 use crate::chance::{Chance, config_of};
@@ -23,7 +22,7 @@ use text_commands::{Status, finish};
 use tx_pool::Pool;
 
 /// Exchanges transactions with another node, and writes what became of that.
-pub(crate) fn exchange<O: Sink, W: Wire, S: Shelf>(
+pub(crate) fn exchange_status<O: Sink, W: Wire, S: Shelf>(
     alloc: Global,
     asked: &Exchange<'_>,
     chance: Chance,
@@ -32,12 +31,12 @@ pub(crate) fn exchange<O: Sink, W: Wire, S: Shelf>(
     shelf: &mut S,
 ) -> Status
     requires { W.has_ended wire.old ≡ false }
-    ensures ends { IsEnding
-        (IsExchangeAnswer asked.now chance (wire_sight W.link W.has_ended W.faults wire.old) (wire_sight W.link W.has_ended W.faults wire.new)
-            (shelf_sight S.told S.faults shelf.old) (shelf_sight S.told S.faults shelf.new))
+    ensures { IsExchangeEnding asked.now chance
+        (wire_sight W.link W.has_ended W.faults wire.old) (wire_sight W.link W.has_ended W.faults wire.new)
+        (shelf_sight S.told S.faults shelf.old) (shelf_sight S.told S.faults shelf.new)
         (observation_of O.written O.faults output.old) (observation_of O.written O.faults output.new) result }
 {
-    let course = course(alloc, asked, chance, output, wire, shelf);
+    let course = course_of(alloc, asked, chance, output, wire, shelf);
     match report_of(alloc, course) {
         Ok(report) => finish(output, report.status, report.text.as_slice()),
         Err(halt) => finish(output, halt.status(), halt.text()),
@@ -45,7 +44,7 @@ pub(crate) fn exchange<O: Sink, W: Wire, S: Shelf>(
 }
 
 /// Loads the pool, and exchanges transactions with another node.
-fn course<O: Sink, W: Wire, S: Shelf>(
+fn course_of<O: Sink, W: Wire, S: Shelf>(
     alloc: Global,
     asked: &Exchange<'_>,
     chance: Chance,

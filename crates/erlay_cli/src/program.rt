@@ -8,7 +8,7 @@ ghost use Rattle.sketch_text_rules.specs.Faults.{out_of_memory_text};
 ghost use Rattle.text_commands.specs.Outside.{observation_of};
 ghost use Rattle.text_commands.specs.Ends.{IsEnding, IsWritten, IsAnswer, IsCodeOf};
 ghost use Rattle.erlay_cli.specs.Exchanges.{Exchange, HasExchange, HasNoExchange};
-ghost use Rattle.erlay_cli.specs.Runs.{IsExchangeAnswer};
+ghost use Rattle.erlay_cli.specs.Runs.{IsExchangeEnding};
 ghost use Rattle.erlay_cli.specs.Sights.{shelf_sight, wire_sight};
 
 use crate::chance::Chance;
@@ -34,9 +34,9 @@ pub fn exit_code<I: Source, O: Sink, W: Wire, S: Shelf>(
     ensures command { IfOk arguments (λ list. HasNoExchange (map string_bytes (drop 1 list.items)) → IsCodeOf (IsEnding
         (IsAnswer (map string_bytes (drop 1 list.items)) (observation_of I.left I.faults input.old) (observation_of I.left I.faults input.new))
         (observation_of O.written O.faults output.old) (observation_of O.written O.faults output.new)) result) }
-    ensures exchange { IfOk arguments (λ list. (x : Exchange) → HasExchange (map string_bytes (drop 1 list.items)) x → IsCodeOf (IsEnding
-        (IsExchangeAnswer x chance (wire_sight W.link W.has_ended W.faults wire.old) (wire_sight W.link W.has_ended W.faults wire.new)
-            (shelf_sight S.told S.faults shelf.old) (shelf_sight S.told S.faults shelf.new))
+    ensures exchange { IfOk arguments (λ list. (x : Exchange) → HasExchange (map string_bytes (drop 1 list.items)) x → IsCodeOf (IsExchangeEnding x chance
+        (wire_sight W.link W.has_ended W.faults wire.old) (wire_sight W.link W.has_ended W.faults wire.new)
+        (shelf_sight S.told S.faults shelf.old) (shelf_sight S.told S.faults shelf.new)
         (observation_of O.written O.faults output.old) (observation_of O.written O.faults output.new)) result) }
     ensures no_text { IfErr arguments (λ error. error_kind error ≢ ErrorKind.OutOfMemory → IsCodeOf (IsEnding
         (IsAnswer [] (observation_of I.left I.faults input.old) (observation_of I.left I.faults input.new))

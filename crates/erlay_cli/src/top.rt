@@ -11,11 +11,11 @@ ghost use Rattle.text_commands.specs.Answers.{HasSettled, answer_to, is_reader};
 ghost use Rattle.text_commands.specs.Ends.{IsAnswer, IsAnswerTo, IsEnding, IsSound, IsTold};
 ghost use Rattle.text_commands.specs.Outside.{observation_of};
 ghost use Rattle.erlay_cli.specs.Exchanges.{AreFormless, Exchange, HasExchange, HasNoExchange};
-ghost use Rattle.erlay_cli.specs.Runs.{HasSoundFile, IsExchangeAnswer, IsSessionStatus};
+ghost use Rattle.erlay_cli.specs.Runs.{HasSoundFile, IsExchangeEnding, IsSessionStatus};
 ghost use Rattle.erlay_cli.specs.Sights.{shelf_sight, wire_sight};
 
 use crate::chance::Chance;
-use crate::exchange::exchange;
+use crate::exchange::exchange_status;
 use crate::words::exchange_of;
 use erlay_base::{Shelf, Sink, Source, Wire};
 use std::alloc::Global;
@@ -41,9 +41,9 @@ pub fn run<I: Source, O: Sink, W: Wire, S: Shelf>(
     ensures command_alone { HasNoExchange (map string_bytes words.now) → (wire.new ≡ wire.old) × (shelf.new ≡ shelf.old) }
 
     // Words that ask for an exchange: over the wire and the shelf, which leaves the input as it was.
-    ensures exchange { (x : Exchange) → HasExchange (map string_bytes words.now) x → IsEnding
-        (IsExchangeAnswer x chance (wire_sight W.link W.has_ended W.faults wire.old) (wire_sight W.link W.has_ended W.faults wire.new)
-            (shelf_sight S.told S.faults shelf.old) (shelf_sight S.told S.faults shelf.new))
+    ensures exchange { (x : Exchange) → HasExchange (map string_bytes words.now) x → IsExchangeEnding x chance
+        (wire_sight W.link W.has_ended W.faults wire.old) (wire_sight W.link W.has_ended W.faults wire.new)
+        (shelf_sight S.told S.faults shelf.old) (shelf_sight S.told S.faults shelf.new)
         (observation_of O.written O.faults output.old) (observation_of O.written O.faults output.new) result }
     ensures exchange_alone { (x : Exchange) → HasExchange (map string_bytes words.now) x → input.new ≡ input.old }
 
@@ -89,7 +89,7 @@ pub fn run<I: Source, O: Sink, W: Wire, S: Shelf>(
             (shelf_sight S.told S.faults shelf.old) (shelf_sight S.told S.faults shelf.new) result ⊎ (result ≡ Status.OutOfMemory) }
 {
     match exchange_of(words) {
-        Some(asked) => exchange(alloc, &asked, chance, output, wire, shelf),
+        Some(asked) => exchange_status(alloc, &asked, chance, output, wire, shelf),
         None => text_commands::run(alloc, words, input, output),
     }
 }

@@ -37,7 +37,7 @@ fn node_of(rt: &impl Abort, alloc: Global, role: Role, salt: u64, tx: &[u8]) -> 
 }
 
 /// The opener of the tests, and its peer.
-fn node_in(rt: &impl Abort, alloc: Global, role: Role) -> Node
+pub(crate) fn node_in(rt: &impl Abort, alloc: Global, role: Role) -> Node
     ensures { IsNew result }
 {
     match role {

@@ -105,52 +105,29 @@ module _ (words : List (List ℕ)) (old new : Observation) (c : Command) (text :
   answer_told status.WriteFault t answer = absurd answer
 
 -- the end of a call whose text was written whole
-written_whole : (Answer : Status → List ℕ → Type 0) (old new : Observation) (end : Status) (text : List ℕ) → end ≢ status.WriteFault
+written_whole : (Answer : Status → List ℕ → Type 0) (old new : Observation) (end : Status) (text : List ℕ) → (Answer status.WriteFault text → ⊥)
     → Answer end text → Appends old.bytes new.bytes text → new.faults ≡ old.faults → IsEnding Answer old new end
-written_whole Answer old new status.WriteFault text other answer wrote quiet = absurd (other refl)
-written_whole Answer old new status.Ok text other answer wrote quiet = (text, answer, wrote, quiet)
-written_whole Answer old new status.Usage text other answer wrote quiet = (text, answer, wrote, quiet)
-written_whole Answer old new (status.BadInput place k) text other answer wrote quiet = (text, answer, wrote, quiet)
-written_whole Answer old new (status.BadStream offset k) text other answer wrote quiet = (text, answer, wrote, quiet)
-written_whole Answer old new status.NoSet text other answer wrote quiet = (text, answer, wrote, quiet)
-written_whole Answer old new (status.Refused e) text other answer wrote quiet = (text, answer, wrote, quiet)
-written_whole Answer old new status.LinkFault text other answer wrote quiet = (text, answer, wrote, quiet)
-written_whole Answer old new status.ShelfFault text other answer wrote quiet = (text, answer, wrote, quiet)
-written_whole Answer old new (status.Truncated p) text other answer wrote quiet = (text, answer, wrote, quiet)
-written_whole Answer old new (status.TooLong limit) text other answer wrote quiet = (text, answer, wrote, quiet)
-written_whole Answer old new status.ReadFault text other answer wrote quiet = (text, answer, wrote, quiet)
-written_whole Answer old new status.OutOfMemory text other answer wrote quiet = (text, answer, wrote, quiet)
+written_whole Answer old new status.WriteFault text none answer wrote quiet = absurd (none answer)
+written_whole Answer old new status.Ok text none answer wrote quiet = (text, answer, wrote, quiet)
+written_whole Answer old new status.Usage text none answer wrote quiet = (text, answer, wrote, quiet)
+written_whole Answer old new (status.BadInput place k) text none answer wrote quiet = (text, answer, wrote, quiet)
+written_whole Answer old new (status.BadStream offset k) text none answer wrote quiet = (text, answer, wrote, quiet)
+written_whole Answer old new status.NoSet text none answer wrote quiet = (text, answer, wrote, quiet)
+written_whole Answer old new (status.Refused e) text none answer wrote quiet = (text, answer, wrote, quiet)
+written_whole Answer old new status.LinkFault text none answer wrote quiet = (text, answer, wrote, quiet)
+written_whole Answer old new status.ShelfFault text none answer wrote quiet = (text, answer, wrote, quiet)
+written_whole Answer old new (status.Truncated p) text none answer wrote quiet = (text, answer, wrote, quiet)
+written_whole Answer old new (status.TooLong limit) text none answer wrote quiet = (text, answer, wrote, quiet)
+written_whole Answer old new status.ReadFault text none answer wrote quiet = (text, answer, wrote, quiet)
+written_whole Answer old new status.OutOfMemory text none answer wrote quiet = (text, answer, wrote, quiet)
 
 -- the end of a call that had an answer, and then wrote it
-pub finished_at : (Answer : Status → List ℕ → Type 0) (old new : Observation) (end : Status) (text : List ℕ) (result : Status) → end ≢ status.WriteFault
-    → Answer end text → IsWritten end text old new result → IsEnding Answer old new result
-finished_at Answer old new end text result other answer (inl (same, wrote, quiet)) =
-    subst (λ (r : Status). IsEnding Answer old new r) (sym same) (written_whole Answer old new end text other answer wrote quiet)
-finished_at Answer old new end text result other answer (inr (same, rose, part)) =
-    subst (λ (r : Status). IsEnding Answer old new r) (sym same) (rose, (end, text, answer, part))
-
--- the same where no answer is a failed write
 pub finished : (Answer : Status → List ℕ → Type 0) (old new : Observation) (end : Status) (text : List ℕ) (result : Status) → (Answer status.WriteFault text → ⊥)
     → Answer end text → IsWritten end text old new result → IsEnding Answer old new result
-finished Answer old new end text result none answer written =
-    finished_at Answer old new end text result (λ same. none (subst (λ (r : Status). Answer r text) same answer)) answer written
-
--- what was answered in a call that ended with no failed write
-pub answered : (Answer : Status → List ℕ → Type 0) (old new : Observation) (end : Status) → end ≢ status.WriteFault → IsEnding Answer old new end
-    → (text : List ℕ) × Answer end text
-answered Answer old new status.WriteFault other ended = absurd (other refl)
-answered Answer old new status.Ok other ended = (ended.0, ended.1)
-answered Answer old new status.Usage other ended = (ended.0, ended.1)
-answered Answer old new (status.BadInput place k) other ended = (ended.0, ended.1)
-answered Answer old new (status.BadStream offset k) other ended = (ended.0, ended.1)
-answered Answer old new status.NoSet other ended = (ended.0, ended.1)
-answered Answer old new (status.Refused e) other ended = (ended.0, ended.1)
-answered Answer old new status.LinkFault other ended = (ended.0, ended.1)
-answered Answer old new status.ShelfFault other ended = (ended.0, ended.1)
-answered Answer old new (status.Truncated p) other ended = (ended.0, ended.1)
-answered Answer old new (status.TooLong limit) other ended = (ended.0, ended.1)
-answered Answer old new status.ReadFault other ended = (ended.0, ended.1)
-answered Answer old new status.OutOfMemory other ended = (ended.0, ended.1)
+finished Answer old new end text result none answer (inl (same, wrote, quiet)) =
+    subst (λ (r : Status). IsEnding Answer old new r) (sym same) (written_whole Answer old new end text none answer wrote quiet)
+finished Answer old new end text result none answer (inr (same, rose, part)) =
+    subst (λ (r : Status). IsEnding Answer old new r) (sym same) (rose, (end, text, answer, part))
 
 -- ---- the answers of commands
 
