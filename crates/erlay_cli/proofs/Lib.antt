@@ -1,3 +1,4 @@
 pub mod Reports
 pub mod Stages
 pub mod Forms
+pub mod Texts

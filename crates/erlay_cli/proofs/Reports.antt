@@ -1,12 +1,9 @@
 -- What the status of an exchange tells of how far it came.
-use Rattle.std.proofs.Common.{◌≡◌, ◌≢◌, ◌⊎◌, inl, inr, ℕ, ◌<◌, ◌≤◌, Bool, true, List, [], length, refl, sym, ap, ◌∙◌, subst, arith, Some, None, MatchOption, Ok, Err}
+use Rattle.std.proofs.Common.{◌≡◌, ◌≢◌, ◌⊎◌, inl, inr, ℕ, ◌<◌, true, List, [], length, refl, sym, ◌∙◌, subst, arith, Some, MatchOption, Err}
 use Rattle.std.specs.declared.option.Option.{Option}
-use Rattle.link_rules.specs.Links.{Link}
-use Rattle.link_rules.specs.Shelves.{Shelf, content_of}
+use Rattle.link_rules.specs.Shelves.{content_of}
 use Rattle.erlay_base.specs.Causes.{HasRisen}
 use Rattle.erlay_base.specs.ShelfCalls.{ToldShelf, HasContent, IsLonger}
-use Rattle.wire_rules.specs.declared.phase.Phase.{Phase}
-use Rattle.pool_rules.specs.Pools.{Transaction}
 use Rattle.pool_rules.specs.declared.limits.TheConstants.{POOL_FILE_LIMIT}
 use Rattle.base_types.specs.declared.text.TextFault.{TextFault}
 use Rattle.node_rules.specs.declared.config.Config.{Config}
@@ -14,7 +11,7 @@ use Rattle.node_rules.specs.declared.config.Role.{Role}
 use Rattle.session_rules.specs.declared.session_end.SessionEnd.{SessionEnd}
 use Rattle.session_rules.specs.declared.session_end.SessionEnd.TheVariants as session_end
 use Rattle.session.specs.Sessions.{is_input_over}
-use Rattle.pool_session.specs.PoolFiles.{HasPoolFile, IsLoaded}
+use Rattle.pool_session.specs.PoolFiles.{IsLoaded}
 use Rattle.pool_session.specs.declared.loading.PoolStop.{PoolStop}
 use Rattle.pool_session.specs.declared.loading.PoolStop.TheVariants as pool_stop
 use Rattle.pool_session.specs.declared.outcome.Outcome.{Outcome}
@@ -23,7 +20,7 @@ use Rattle.text_commands.specs.Ends.{IsWritten}
 use Rattle.text_commands.specs.Outside.{Observation}
 use Rattle.text_commands.specs.declared.status.Status.{Status}
 use Rattle.text_commands.specs.declared.status.Status.TheVariants as status
-use Rattle.erlay_cli.specs.Courses.{HasCounts, HasCourse, HasLoadedCourse, HasSessionCourse, IsAnnounced, IsReported, IsSpelled, IsSpelledEnd, status_of, status_of_end}
+use Rattle.erlay_cli.specs.Courses.{HasCounts, HasCourse, HasLoadedCourse, HasSessionCourse, IsAnnounced, IsReported, IsSpelled, status_of, status_of_end}
 use Rattle.erlay_cli.specs.Exchanges.{Exchange, config_of}
 use Rattle.erlay_cli.specs.Runs.{HasSoundFile, IsExchangeEnding, IsSessionStatus}
 use Rattle.erlay_cli.specs.Sights.{ShelfSight, WireSight}
@@ -66,7 +63,7 @@ reported_counts reached end text w v s t counts (inr (spelled, starved, line)) =
       link_fault = λ same. cc (starved, same);
       no_link_fault = λ other. counts.no_link_fault (λ same. subst IsQuiet same quiet);
       shelf_fault = λ same. cc (starved, same);
-      no_shelf_fault = λ other. counts.no_shelf_fault (λ same. subst IsQuiet same quiet)
+      no_shelf_fault = λ other. counts.no_shelf_fault (λ same. subst IsQuiet same quiet);
     }
 
 -- an exchange answers none of these
@@ -104,7 +101,7 @@ reported_status reached end text (inr (spelled, starved, line)) = subst IsExchan
 -- ---- a session that was cut short
 
 -- the input has ended where the status tells that a session was cut short
-abbrev IsCut : Status → Type 0
+abbrev pub IsCut : Status → Type 0
 IsCut (status.Truncated p) = Unit {0}
 IsCut other = ⊥
 
@@ -122,7 +119,7 @@ ended_input (course.Over (outcome.Saved text)) x c w v s t has cut = absurd cut
 ended_input (course.Over outcome.Unsaved) x c w v s t has cut = absurd cut
 ended_input (course.Over (outcome.Ended session_end.Done)) x c w v s t has cut = absurd cut
 ended_input (course.Over (outcome.Ended (session_end.Refused e))) x c w v s t has cut = absurd cut
-ended_input (course.Over (outcome.Ended (session_end.Truncated p))) x c w v s t (pool, shelf, loaded, link, linked, over) cut = over.input
+ended_input (course.Over (outcome.Ended (session_end.Truncated p))) x c w v s t (pool, shelf, loaded, (link, linked, over)) cut = over.input
 ended_input (course.Over (outcome.Ended session_end.LinkFault)) x c w v s t has cut = absurd cut
 ended_input (course.Over (outcome.Ended session_end.SessionLimit)) x c w v s t has cut = absurd cut
 ended_input (course.Over (outcome.Ended session_end.OutOfMemory)) x c w v s t has cut = absurd cut

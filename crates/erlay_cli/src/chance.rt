@@ -1,6 +1,7 @@
 //! What a run takes from the random source and the clock of its machine.
 
 ghost use Rattle.std.specs.Prelude.{◌≡◌};
+ghost use Rattle.node_rules.specs.Invariant.{IsConfig};
 ghost use Rattle.erlay_cli.specs.Exchanges as exchanges;
 
 use node_rules::{Config, Role};
@@ -20,7 +21,8 @@ pub struct Chance {
 /// A node of the main network, by what chance and the clock gave. It offers two extensions.
 #[tactic(auto, unfolding(crate::specs::Exchanges::config_of))]
 pub(crate) fn config_of(role: Role, chance: Chance) -> Config
-    ensures { result ≡ exchanges.config_of role chance }
+    ensures value { result ≡ exchanges.config_of role chance }
+    ensures config { IsConfig result }
 {
     Config {
         magic: MAIN_MAGIC,

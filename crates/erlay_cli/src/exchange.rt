@@ -113,7 +113,15 @@ fn session_course<W: Wire, S: Shelf>(
         (shelf_sight S.told S.faults shelf.old) (shelf_sight S.told S.faults shelf.new) }
 {
     let config = config_of(asked.role, chance);
-    match run_session(alloc, wire, shelf, config, pool, rounds_of(asked.role), asked.out) {
+    match run_session(
+        alloc,
+        wire,
+        shelf,
+        config,
+        pool,
+        rounds_of(asked.role),
+        asked.out,
+    ) {
         Ok(outcome) => Course::Over(outcome),
         Err(OutOfMemory) => Course::Starved,
     }

@@ -7,6 +7,7 @@ ghost use Rattle.erlay_cli.specs.Courses.{IsReported, status_of, text_of, status
 ghost use Rattle.erlay_cli.specs.Halts.{status_of_halt, text_of_halt};
 ghost use Rattle.erlay_cli.specs.declared.course.Course.TheVariants as course;
 ghost use Rattle.pool_session.specs.declared.outcome.Outcome.TheVariants as outcome;
+ghost use Rattle.session_rules.specs.declared.session_end.SessionEnd.TheVariants as session_end;
 
 use crate::course::Course;
 use base_types::OutOfMemory;

@@ -86,7 +86,7 @@ pub fn run<I: Source, O: Sink, W: Wire, S: Shelf>(
     ensures complete_exchange { (x : Exchange) → HasExchange (map string_bytes words.now) x → HasSoundFile (S.told shelf.old) x.pool
         → ¬ HasRisen (O.faults output.old) (O.faults output.new) → ¬ HasRisen (W.faults wire.old) (W.faults wire.new) → ¬ HasRisen (S.faults shelf.old) (S.faults shelf.new)
         → IsSessionStatus x chance (wire_sight W.link W.has_ended W.faults wire.old) (wire_sight W.link W.has_ended W.faults wire.new)
-            (shelf_sight S.told S.faults shelf.old) (shelf_sight S.told S.faults shelf.new) result ⊎ (result ≡ Status.OutOfMemory) }
+        (shelf_sight S.told S.faults shelf.old) (shelf_sight S.told S.faults shelf.new) result ⊎ (result ≡ Status.OutOfMemory) }
 {
     match exchange_of(words) {
         Some(asked) => exchange_status(alloc, &asked, chance, output, wire, shelf),

@@ -47,7 +47,9 @@ fn pool_text(rt: &impl Abort, alloc: Global, from: u64, to: u64) -> Bytes {
 /// This binary, as the program with these words.
 fn program(alloc: Global, binary: &Path, words: &str) -> Result<Command, Fail> {
     let mut command = Command::new(alloc, binary)?;
-    command.arg("process_tests::child")?.env("ERLAY_WORDS", words)?;
+    command
+        .arg("process_tests::child")?
+        .env("ERLAY_WORDS", words)?;
     Ok(command)
 }
 
@@ -68,7 +70,11 @@ fn sorted_lines(rt: &HostRuntime, name: &str) -> Result<Vec<String>, Fail> {
 fn two_processes_have_the_same_transactions(rt: HostRuntime) -> Result<(), Fail> {
     let alloc = rt.alloc();
     fs::write(&rt, "ours.pool", pool_text(&rt, alloc, 0, 2000).as_slice())?;
-    fs::write(&rt, "theirs.pool", pool_text(&rt, alloc, 25, 2035).as_slice())?;
+    fs::write(
+        &rt,
+        "theirs.pool",
+        pool_text(&rt, alloc, 25, 2035).as_slice(),
+    )?;
     let binary = env::current_exe(&rt)?;
     let serve = "serve 127.0.0.1:18445 theirs.pool theirs.after";
     let mut server = program(alloc, &binary.as_path(), serve)?
@@ -85,10 +91,16 @@ fn two_processes_have_the_same_transactions(rt: HostRuntime) -> Result<(), Fail>
     let output = program(alloc, &binary.as_path(), sync)?.output(&rt)?;
     // how many short ids are answered is chance: two may be equal
     let text = str::from_utf8(output.stdout.as_slice())?;
-    assert!(rt; text.starts_with("round 1 first 511 2000 ") && text.contains("\npool 2035\nstatus 0\n"), "{text}");
+    assert!(rt;
+        text.starts_with("round 1 first 511 2000 ") && text.contains("\npool 2035\nstatus 0\n"),
+        "{text}"
+    );
     let mut rest = String::new(alloc);
     served.read_to_string(&mut rest)?;
-    assert!(rt; rest.as_str().starts_with("round 1 first 511 2010 "), "{rest}");
+    assert!(rt;
+        rest.as_str().starts_with("round 1 first 511 2010 "),
+        "{rest}"
+    );
     assert!(rt; rest.as_str().contains("\npool 2035\nstatus 0\n"), "{rest}");
     assert!(rt; server.wait()?.success());
     let ours = sorted_lines(&rt, "ours.after")?;

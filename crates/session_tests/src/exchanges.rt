@@ -10,10 +10,13 @@ use std::test::Fail;
 /// The pool of the opener, that of the accepter, and what each has behind a round.
 const OPENER: &[u8] =
     b"pool 2 1\n9595c9df90075148eb06860365df33584b75bff782a510c6cd4883a419833d50 68656c6c6f\n";
+
 const ACCEPTER: &[u8] =
     b"pool 2 1\n4f8b42c22dd3729b519ba6f68d2da7cc5b2d606d05daed5ad5128cc03e6c6358 616263\n";
+
 const OPENER_AFTER: &[u8] =
     b"pool 2 2\n9595c9df90075148eb06860365df33584b75bff782a510c6cd4883a419833d50 68656c6c6f\n4f8b42c22dd3729b519ba6f68d2da7cc5b2d606d05daed5ad5128cc03e6c6358 616263\n";
+
 const ACCEPTER_AFTER: &[u8] =
     b"pool 2 2\n4f8b42c22dd3729b519ba6f68d2da7cc5b2d606d05daed5ad5128cc03e6c6358 616263\n9595c9df90075148eb06860365df33584b75bff782a510c6cd4883a419833d50 68656c6c6f\n";
 
@@ -91,7 +94,13 @@ fn ending_of(
     let words = words_of(alloc, words)?;
     let words = words.as_slice();
     let status = run(
-        alloc, words, chance, &mut input, &mut output, &mut wire, &mut shelf,
+        alloc,
+        words,
+        chance,
+        &mut input,
+        &mut output,
+        &mut wire,
+        &mut shelf,
     );
     Ok(Ending {
         code: status.code(),
@@ -137,11 +146,46 @@ const SYNCS: &[Case] = &[
         "truncated waiting\n",
         None,
     ),
-    ("sync peer pool out", OPENER, Faults { wire: 1, ..NONE }, 7, "link fault\n", None),
-    ("sync peer pool out", OPENER, Faults { wire: 2, ..NONE }, 7, "link fault\n", None),
-    ("sync peer pool out", OPENER, Faults { shelf: 1, ..NONE }, 8, "shelf fault\n", None),
-    ("sync peer other out", OPENER, NONE, 8, "shelf fault\n", None),
-    ("sync peer pool out", OPENER, Faults { shelf: 3, ..NONE }, 8, "shelf fault\n", None),
+    (
+        "sync peer pool out",
+        OPENER,
+        Faults { wire: 1, ..NONE },
+        7,
+        "link fault\n",
+        None,
+    ),
+    (
+        "sync peer pool out",
+        OPENER,
+        Faults { wire: 2, ..NONE },
+        7,
+        "link fault\n",
+        None,
+    ),
+    (
+        "sync peer pool out",
+        OPENER,
+        Faults { shelf: 1, ..NONE },
+        8,
+        "shelf fault\n",
+        None,
+    ),
+    (
+        "sync peer other out",
+        OPENER,
+        NONE,
+        8,
+        "shelf fault\n",
+        None,
+    ),
+    (
+        "sync peer pool out",
+        OPENER,
+        Faults { shelf: 3, ..NONE },
+        8,
+        "shelf fault\n",
+        None,
+    ),
     (
         "sync peer pool out",
         OPENER,
@@ -150,7 +194,14 @@ const SYNCS: &[Case] = &[
         "",
         Some(OPENER_AFTER),
     ),
-    ("sync peer pool out", b"pool 2 2\n", NONE, 2, "bad input 0: line count\n", None),
+    (
+        "sync peer pool out",
+        b"pool 2 2\n",
+        NONE,
+        2,
+        "bad input 0: line count\n",
+        None,
+    ),
     (
         "sync peer pool out",
         b"9595c9df90075148eb06860365df33584b75bff782a510c6cd4883a419833d50 616263\n",
@@ -178,9 +229,30 @@ const SERVES: &[Case] = &[
         "listening\ntruncated greeting\n",
         None,
     ),
-    ("serve here pool out", ACCEPTER, Faults { wire: 1, ..NONE }, 7, "link fault\n", None),
-    ("serve here pool out", ACCEPTER, Faults { wire: 2, ..NONE }, 7, "listening\nlink fault\n", None),
-    ("serve here pool out", ACCEPTER, Faults { output: 1, ..NONE }, 6, "", None),
+    (
+        "serve here pool out",
+        ACCEPTER,
+        Faults { wire: 1, ..NONE },
+        7,
+        "link fault\n",
+        None,
+    ),
+    (
+        "serve here pool out",
+        ACCEPTER,
+        Faults { wire: 2, ..NONE },
+        7,
+        "listening\nlink fault\n",
+        None,
+    ),
+    (
+        "serve here pool out",
+        ACCEPTER,
+        Faults { output: 1, ..NONE },
+        6,
+        "",
+        None,
+    ),
     (
         "serve here pool out",
         ACCEPTER,
@@ -189,7 +261,14 @@ const SERVES: &[Case] = &[
         "listening\n",
         Some(ACCEPTER_AFTER),
     ),
-    ("serve here pool out", ACCEPTER, Faults { shelf: 3, ..NONE }, 8, "listening\nshelf fault\n", None),
+    (
+        "serve here pool out",
+        ACCEPTER,
+        Faults { shelf: 3, ..NONE },
+        8,
+        "listening\nshelf fault\n",
+        None,
+    ),
 ];
 
 /// Runs each case over these bytes, and compares what it sent with what a peer was given.
@@ -215,8 +294,20 @@ fn assert_cases(
 fn synchronizations(rt: HostRuntime) -> Result<(), Fail> {
     let alloc = rt.alloc();
     let (by_opener, by_accepter) = given(&rt, alloc);
-    assert_cases(&rt, alloc, SYNCS, by_accepter.as_slice(), by_opener.as_slice())?;
-    assert_cases(&rt, alloc, SERVES, by_opener.as_slice(), by_accepter.as_slice())
+    assert_cases(
+        &rt,
+        alloc,
+        SYNCS,
+        by_accepter.as_slice(),
+        by_opener.as_slice(),
+    )?;
+    assert_cases(
+        &rt,
+        alloc,
+        SERVES,
+        by_opener.as_slice(),
+        by_accepter.as_slice(),
+    )
 }
 
 /// Each call of the wire failing once: nothing is saved, and what was sent is a front of what is sent else.
@@ -227,11 +318,21 @@ fn each_call_of_the_wire_failing(rt: HostRuntime) -> Result<(), Fail> {
     let mut call = 1;
     loop {
         let faults = Faults { wire: call, ..NONE };
-        let left = ending_of(alloc, "sync peer pool out", OPENER, coming.as_slice(), faults)?;
+        let left = ending_of(
+            alloc,
+            "sync peer pool out",
+            OPENER,
+            coming.as_slice(),
+            faults,
+        )?;
         if left.code == 0 {
             break;
         }
-        assert_eq!(rt; (left.code, left.text.as_slice()), (7, b"link fault\n".as_slice()), "{call}");
+        assert_eq!(rt;
+            (left.code, left.text.as_slice()),
+            (7, b"link fault\n".as_slice()),
+            "{call}"
+        );
         assert!(rt; left.saved.is_none(), "{call}");
         assert!(rt; sent.as_slice().starts_with(left.sent.as_slice()), "{call}");
         call += 7;

@@ -80,7 +80,9 @@ impl Wire for Repeating {
 /// A wire over which an opener's handshake comes, and then the largest frame of an unknown command, again and again.
 fn peer_wire(rt: &impl Abort, alloc: Global) -> Repeating {
     let (by_opener, _) = given(rt, alloc);
-    let mut bytes = by_opener[..203.min(by_opener.len())].to_vec(alloc).expect(rt, "memory");
+    let mut bytes = by_opener[..203.min(by_opener.len())]
+        .to_vec(alloc)
+        .expect(rt, "memory");
     let again = bytes.len();
     let payload = vec![in alloc; 7u8; PAYLOAD_LIMIT].expect(rt, "memory");
     let frame = FrameRef {
