@@ -1,25 +1,48 @@
 //! Moving bytes through the fakes, with calls that fail in mid-stream, and through streams of the standard library.
 
-use super::*;
-use std::alloc::{AllocError, Global};
+use crate::fakes::{TEN, only};
+use erlay_base::{Failed, MemSink, MemSource, ReadEnd, StdSink, StdSource, read_all, write_all};
+use std::alloc::Global;
 use std::io::{Error, ErrorKind, Write};
-use std::test::Fail;
+use std::process::Abort;
 
-const TEN: &[u8] = &[0, 1, 2, 3, 4, 5, 6, 7, 8, 9];
+/// A source of the ten bytes: a call reads at most `cut` of them, and that of the number `failing` fails.
+fn source_of(rt: &impl Abort, alloc: Global, cut: usize, failing: u64) -> MemSource {
+    let bytes = TEN.to_vec(alloc).expect(rt, "memory");
+    let calls = only(alloc, failing).expect(rt, "memory");
+    MemSource::new(bytes, cut.max(1), calls)
+}
 
-/// The numbers of the calls that fail: of the one call, or of none where it is 0.
-fn only(alloc: Global, call: u64) -> Result<Vec<u64>, AllocError> {
-    let mut calls = Vec::new(alloc);
-    if call > 0 {
-        calls.push(call)?;
+/// How many of the ten bytes were taken: the rest of them is still there.
+fn taken_from(rt: &impl Abort, alloc: Global, source: &mut MemSource) -> usize {
+    let Ok(rest) = read_all(alloc, source, 10) else {
+        rt.abort()
+    };
+    assert!(rt; TEN.ends_with(rest.as_slice()));
+    10usize.saturating_sub(rest.len())
+}
+
+/// Why reading up to a limit stops, if it doesn't read all ten bytes, and how many were taken by then.
+fn read(
+    rt: &impl Abort,
+    alloc: Global,
+    cut: usize,
+    failing: u64,
+    limit: usize,
+) -> (Option<ReadEnd>, usize) {
+    let mut source = source_of(rt, alloc, cut, failing);
+    match read_all(alloc, &mut source, limit.min(1_000_000)) {
+        Ok(bytes) => {
+            assert_eq!(rt; bytes.as_slice(), TEN);
+            (None, 10)
+        }
+        Err(end) => (Some(end), taken_from(rt, alloc, &mut source)),
     }
-    Ok(calls)
 }
 
 #[test]
-fn reads_to_the_end_or_stops(rt: HostRuntime) -> Result<(), Fail> {
-    let alloc = rt.alloc();
-    // the bytes of a call at most, the call that fails, the limit, why it stopped, and the bytes read by then
+fn reads_to_the_end_or_stops(rt: HostRuntime) {
+    // the bytes of a call at most, the call that fails, the limit, why it stopped, and the bytes taken by then
     for (cut, failing, limit, stop, taken) in [
         (1usize, 0, 10, None, 10),
         (3, 0, 11, None, 10),
@@ -35,29 +58,29 @@ fn reads_to_the_end_or_stops(rt: HostRuntime) -> Result<(), Fail> {
         // two calls find the end, and no third is made
         (10, 3, 10, None, 10),
     ] {
-        let mut source = MemSource::new(TEN.to_vec(alloc)?, cut.max(1), only(alloc, failing)?);
-        match read_all(alloc, &mut source, limit.min(1_000_000)) {
-            Ok(bytes) => {
-                assert_eq!(rt; stop, None, "{cut} {failing} {limit}");
-                assert_eq!(rt; bytes.as_slice(), TEN);
-            }
-            Err(end) => {
-                assert_eq!(rt; stop, Some(end), "{cut} {failing} {limit}");
-                let Ok(rest) = read_all(alloc, &mut source, 10) else {
-                    return Err(Fail::from("not read"));
-                };
-                assert_eq!(rt; Some(rest.as_slice()), TEN.get(taken..));
-            }
-        }
+        let told = read(&rt, rt.alloc(), cut, failing, limit);
+        assert_eq!(rt; told, (stop, taken), "{cut} {failing} {limit}");
     }
-    Ok(())
+}
+
+/// What comes of writing the ten bytes, and how many were written by then.
+fn written(
+    rt: &impl Abort,
+    alloc: Global,
+    cut: usize,
+    failing: u64,
+) -> (Result<(), Failed>, usize) {
+    let calls = only(alloc, failing).expect(rt, "memory");
+    let mut sink = MemSink::new(alloc, cut.max(1), calls);
+    let told = write_all(&mut sink, TEN);
+    assert!(rt; TEN.starts_with(sink.written()));
+    (told, sink.written().len())
 }
 
 #[test]
-fn writes_all_or_stops(rt: HostRuntime) -> Result<(), Fail> {
-    let alloc = rt.alloc();
+fn writes_all_or_stops(rt: HostRuntime) {
     // the bytes of a call at most, the call that fails, what comes of it, and the bytes written by then
-    for (cut, failing, result, written) in [
+    for (cut, failing, result, count) in [
         (1usize, 0, Ok(()), 10),
         (3, 0, Ok(()), 10),
         (11, 0, Ok(()), 10),
@@ -67,11 +90,9 @@ fn writes_all_or_stops(rt: HostRuntime) -> Result<(), Fail> {
         // ten calls write all, and no eleventh is made
         (1, 11, Ok(()), 10),
     ] {
-        let mut sink = MemSink::new(alloc, cut.max(1), only(alloc, failing)?);
-        assert_eq!(rt; write_all(&mut sink, TEN), result, "{cut} {failing}");
-        assert_eq!(rt; Some(sink.written()), TEN.get(..written));
+        let told = written(&rt, rt.alloc(), cut, failing);
+        assert_eq!(rt; told, (result, count), "{cut} {failing}");
     }
-    Ok(())
 }
 
 /// Takes each piece, and gives `errors` errors before a flush passes.
@@ -95,28 +116,35 @@ impl Write for Flushing {
     }
 }
 
+/// What comes of writing the ten bytes, where so many flushes fail.
+fn flushed(errors: u32, kind: ErrorKind) -> Result<(), Failed> {
+    let mut sink = StdSink::new(Flushing { errors, kind });
+    write_all(&mut sink, TEN)
+}
+
 #[test]
-fn moves_bytes_through_std_streams(rt: HostRuntime) -> Result<(), Fail> {
-    let alloc = rt.alloc();
-    let Ok(bytes) = read_all(alloc, &mut StdSource::new(TEN), 10) else {
-        return Err(Fail::from("not read"));
+fn a_flush_that_fails_is_a_fault(rt: HostRuntime) {
+    assert_eq!(rt; flushed(1, ErrorKind::Other), Err(Failed));
+    // but for interruptions below a thousand
+    assert_eq!(rt; flushed(999, ErrorKind::Interrupted), Ok(()));
+    assert_eq!(rt; flushed(1000, ErrorKind::Interrupted), Err(Failed));
+}
+
+#[test]
+fn reads_through_std_streams(rt: HostRuntime) {
+    let Ok(bytes) = read_all(rt.alloc(), &mut StdSource::new(TEN), 10) else {
+        rt.abort()
     };
     assert_eq!(rt; bytes.as_slice(), TEN);
+    let _ = StdSource::new(rt.reader());
+}
+
+#[test]
+fn writes_through_std_streams(rt: HostRuntime) {
     let mut room = [0u8; 9];
     let mut sink = StdSink::new(&mut room[..]);
     // There is room for nine bytes: the tenth is a fault.
     assert_eq!(rt; write_all(&mut sink, TEN), Err(Failed));
-    // A flush that fails is a fault, but for interruptions below a thousand.
-    for (errors, kind, result) in [
-        (1, ErrorKind::Other, Err(Failed)),
-        (999, ErrorKind::Interrupted, Ok(())),
-        (1000, ErrorKind::Interrupted, Err(Failed)),
-    ] {
-        let mut sink = StdSink::new(Flushing { errors, kind });
-        assert_eq!(rt; write_all(&mut sink, TEN), result);
-    }
     let mut streams = StdSink::new(std::io::writer(&rt));
     assert_eq!(rt; write_all(&mut streams, &[]), Ok(()));
-    let _ = StdSource::new(rt.reader());
-    Ok(())
 }

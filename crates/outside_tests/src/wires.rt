@@ -1,200 +1,122 @@
-//! Wires and shelves: each call of the fakes, and each of them failing; the adapters over files and over a connection.
+//! Wires: each call of the fake, and each of them failing; and two over a connection.
 
-use super::*;
-use std::alloc::{AllocError, Global};
-use std::test::Fail;
-use std::{env, fs};
+ghost use Rattle.std.specs.Prelude.{◌≡◌, true};
 
-const TEN: &[u8] = &[0, 1, 2, 3, 4, 5, 6, 7, 8, 9];
+use crate::fakes::{TEN, only};
+use erlay_base::{Failed, MemWire, TcpWire, Wire};
+use std::alloc::Global;
+use std::net::Net;
+use std::process::Abort;
 
-/// The number of the one call that fails.
-fn only(alloc: Global, call: u64) -> Result<Vec<u64>, AllocError> {
-    let mut calls = Vec::new(alloc);
-    calls.push(call)?;
-    Ok(calls)
-}
-
-/// Makes six calls: two links, of which the first is used both ways and the second is at its end.
-/// Answers the number of the first one that failed, and else 0.
-fn first_wire_fault<W: Wire>(wire: &mut W, received: &mut usize, last: &mut usize) -> u64 {
+/// Connects, sends and receives. Answers the number of the first call that failed, and else 0.
+fn first_fault<W: Wire>(wire: &mut W, received: &mut usize) -> u64 {
     let mut buf = [0u8; 4];
     let Ok(()) = wire.connect("a:1") else {
-        return 1
+        return 1;
     };
     let Ok(_) = wire.send(b"abc") else { return 2 };
     let Ok(count) = wire.receive(&mut buf) else {
         return 3;
     };
     *received = count;
-    let Ok(()) = wire.listen("b:2") else { return 4 };
-    let Ok(()) = wire.accept() else { return 5 };
+    0
+}
+
+/// Listens, accepts and receives. Answers the number of the first call that failed behind three others, and else 0.
+fn later_fault<W: Wire>(wire: &mut W, received: &mut usize) -> u64 {
+    let mut buf = [0u8; 4];
+    let Ok(()) = wire.listen("b:2") else {
+        return 4;
+    };
+    let Ok(()) = wire.accept() else {
+        return 5;
+    };
     let Ok(count) = wire.receive(&mut buf) else {
         return 6;
     };
-    *last = count;
+    *received = count;
     0
 }
 
+/// Makes six calls: over two links, of which the first is used both ways and the second is at its end. Answers the number
+/// of the first one that failed, and else 0; and how many bytes each link gave, where it came so far.
+fn calls(wire: &mut MemWire) -> (u64, usize, usize) {
+    let (mut first, mut second) = (0, 9);
+    let fault = match first_fault(wire, &mut first) {
+        0 => later_fault(wire, &mut second),
+        fault => fault,
+    };
+    (fault, first, second)
+}
+
+/// A wire over which the ten bytes come: a call moves at most `cut` bytes, and that of the number `failing` fails.
+fn wire_of(rt: &impl Abort, alloc: Global, cut: usize, failing: u64) -> MemWire {
+    let bytes = TEN.to_vec(alloc).expect(rt, "memory");
+    let failing = only(alloc, failing).expect(rt, "memory");
+    MemWire::new(alloc, bytes, cut.max(1), failing)
+}
+
+/// What the six calls come to, and how many bytes the current link has sent by then.
+fn told(rt: &impl Abort, alloc: Global, cut: usize, failing: u64) -> ((u64, usize, usize), usize) {
+    let mut wire = wire_of(rt, alloc, cut, failing);
+    let told = calls(&mut wire);
+    assert!(rt; b"abc".starts_with(wire.sent()));
+    (told, wire.sent().len())
+}
+
 #[test]
-fn wire_calls_each_pass_and_fail(rt: HostRuntime) -> Result<(), Fail> {
-    let alloc = rt.alloc();
-    for (cut, moved) in [(1usize, 1usize), (1000, 3)] {
-        // the call that fails, and how many bytes the current link has sent by then
-        for (call, sent) in [
-            (1, 0),
-            (2, 0),
-            (3, moved),
-            (4, moved),
-            (5, moved),
-            (6, 0),
-            (7, 0),
+fn wire_calls_each_pass_and_fail(rt: HostRuntime) {
+    for (cut, moved) in [(1, 1), (1000, 3)] {
+        // the call that fails, what comes of the six, and how many bytes the current link has sent by then
+        for (failing, fault, first, second, sent) in [
+            (1, 1, 0, 9, 0),
+            (2, 2, 0, 9, 0),
+            (3, 3, 0, 9, moved),
+            (4, 4, cut.min(4), 9, moved),
+            (5, 5, cut.min(4), 9, moved),
+            (6, 6, cut.min(4), 9, 0),
+            (7, 0, cut.min(4), 0, 0),
         ] {
-            let mut wire = MemWire::new(alloc, TEN.to_vec(alloc)?, cut.max(1), only(alloc, call)?);
-            let (mut received, mut last) = (0, 9);
-            let fault = first_wire_fault(&mut wire, &mut received, &mut last);
-            assert_eq!(rt; fault, if call == 7 { 0 } else { call });
-            assert_eq!(rt; Some(wire.sent()), b"abc".get(..sent));
-            assert_eq!(rt; received, if call > 3 { cut.min(4) } else { 0 });
-            assert_eq!(rt; last, if call == 7 { 0 } else { 9 });
+            let told = told(&rt, rt.alloc(), cut, failing);
+            assert_eq!(rt; told, ((fault, first, second), sent), "{cut} {failing}");
         }
     }
-    Ok(())
 }
 
-/// Makes four calls, and answers the number of the first one that failed, and else 0.
-fn first_shelf_fault<S: Shelf>(shelf: &mut S, count: &mut usize) -> u64 {
-    let mut buf = [0u8; 4];
-    let Ok(_) = shelf.read_at("a", 0, &mut buf) else {
-        return 1;
-    };
-    let Ok(()) = shelf.save("b", b"new") else {
-        return 2;
-    };
-    let Ok(read) = shelf.read_at("b", 1, &mut buf) else {
-        return 3;
-    };
-    *count = read;
-    let Ok(()) = shelf.save("a", b"other") else {
-        return 4;
-    };
-    0
-}
-
-/// A shelf that holds the bytes as `a`.
-fn shelf_of(alloc: Global, bytes: &[u8], failing: u64) -> Result<MemShelf, AllocError> {
-    let mut held = Vec::new(alloc);
-    held.push((String::from_str(alloc, "a")?, bytes.to_vec(alloc)?))?;
-    Ok(MemShelf::new(alloc, held, only(alloc, failing)?))
-}
-
-#[test]
-fn shelf_calls_each_pass_and_fail(rt: HostRuntime) -> Result<(), Fail> {
-    let alloc = rt.alloc();
-    let new: Option<&[u8]> = Some(b"new");
-    // the call that fails, the bytes that the third one gave, and what is held then as b
-    for (call, read, saved) in [
-        (1, 0, None),
-        (2, 0, None),
-        (3, 0, new),
-        (4, 2, new),
-        (5, 2, new),
-    ] {
-        let mut shelf = shelf_of(alloc, b"old", call)?;
-        let mut count = 0;
-        let fault = first_shelf_fault(&mut shelf, &mut count);
-        assert_eq!(rt; fault, if call == 5 { 0 } else { call });
-        assert_eq!(rt; count, read);
-        assert_eq!(rt; shelf.content("b"), saved);
-        let old: &[u8] = if call == 5 { b"other" } else { b"old" };
-        assert_eq!(rt; shelf.content("a"), Some(old));
-        assert_eq!(rt; shelf.content("c"), None);
-    }
-    Ok(())
-}
-
-#[test]
-fn loads_whole_contents_or_stops(rt: HostRuntime) -> Result<(), Fail> {
-    let alloc = rt.alloc();
-    let long = vec![in alloc; 7u8; 40_000]?;
-    // the content, its name, the limit, the call that fails, and why it stopped
-    for (content, name, limit, failing, stop) in [
-        (TEN, "a", 10usize, 9u64, None),
-        (TEN, "a", 1000, 9, None),
-        (TEN, "a", 9, 9, Some(ReadEnd::TooLong)),
-        (TEN, "a", 0, 9, Some(ReadEnd::TooLong)),
-        (b"", "a", 0, 9, None),
-        (TEN, "b", 10, 9, Some(ReadEnd::Failed)),
-        (TEN, "a", 10, 1, Some(ReadEnd::Failed)),
-        (TEN, "a", 10, 2, Some(ReadEnd::Failed)),
-        // two calls find the end, and no third is made
-        (TEN, "a", 10, 3, None),
-        (long.as_slice(), "a", 40_000, 9, None),
-        (long.as_slice(), "a", 39_999, 9, Some(ReadEnd::TooLong)),
-        (long.as_slice(), "a", 40_000, 3, Some(ReadEnd::Failed)),
-    ] {
-        let mut shelf = shelf_of(alloc, content, failing)?;
-        match load_all(alloc, &mut shelf, name, limit.min(1_000_000)) {
-            Ok(bytes) => {
-                assert_eq!(rt; stop, None, "{limit} {failing}");
-                assert_eq!(rt; bytes.as_slice(), content);
-            }
-            Err(end) => assert_eq!(rt; stop, Some(end), "{limit} {failing}"),
-        }
-    }
-    Ok(())
-}
-
-#[test]
-fn shelf_of_files_saves_and_loads(rt: HostRuntime) -> Result<(), Fail> {
-    let alloc = rt.alloc();
-    let path = env::temp_dir(&rt)?.join(alloc, "erlay_base_shelf_of_files")?;
-    let Some(name) = path.to_str() else {
-        return Err(Fail::from("no path"));
-    };
-    let mut shelf = DirShelf::new(&rt);
-    assert_eq!(rt;
-        load_all(alloc, &mut shelf, "no such folder/name", 10).err(),
-        Some(ReadEnd::Failed)
-    );
-    assert_eq!(rt; shelf.save("no such folder/name", TEN), Err(Failed));
-    for content in [TEN, b"short"] {
-        assert_eq!(rt; shelf.save(name, content), Ok(()));
-        let Ok(bytes) = load_all(alloc, &mut shelf, name, 10) else {
-            return Err(Fail::from("not loaded"));
-        };
-        assert_eq!(rt; bytes.as_slice(), content);
-        assert_eq!(rt;
-            load_all(alloc, &mut shelf, name, 4).err(),
-            Some(ReadEnd::TooLong)
-        );
-    }
-    fs::remove_file(&rt, name)?;
-    Ok(())
-}
-
-#[test]
-fn two_wires_meet_over_a_connection(rt: HostRuntime) -> Result<(), Fail> {
-    let address = "127.0.0.1:18613";
-    let mut buf = [0u8; 8];
-    let mut first = TcpWire::new(&rt);
-    let mut second = TcpWire::new(&rt);
+/// Links two wires, the first of which listens. The address is free before, and then in use.
+fn meet<R: Net>(rt: &impl Abort, first: &mut TcpWire<R>, second: &mut TcpWire<R>, address: &str)
+    ensures first { first.new.is_linked ≡ true }
+    ensures second { second.new.is_linked ≡ true }
+{
     assert_eq!(rt; second.connect("no address"), Err(Failed));
-    let Ok(()) = first.listen(address) else {
-        return Err(Fail::from("the address is in use"));
-    };
-    // An address that is in use already.
+    assert_eq!(rt; first.listen(address), Ok(()));
     assert_eq!(rt; second.listen(address), Err(Failed));
     let Ok(()) = second.connect(address) else {
-        return Err(Fail::from("not connected"));
+        rt.abort()
     };
-    let Ok(()) = first.accept() else {
-        return Err(Fail::from("not accepted"));
-    };
+    let Ok(()) = first.accept() else { rt.abort() };
+}
+
+/// That what the second wire sends comes over the first.
+fn assert_told<R: Net>(rt: &impl Abort, first: &mut TcpWire<R>, second: &mut TcpWire<R>)
+    requires first { first.old.is_linked ≡ true }
+    requires second { second.old.is_linked ≡ true }
+    ensures { first.new.is_linked ≡ true }
+{
+    let mut buf = [0u8; 8];
     assert_eq!(rt; second.send(b"hello"), Ok(5));
     assert_eq!(rt; first.receive(&mut buf), Ok(5));
     assert_eq!(rt; first.receive(&mut []), Ok(0));
     assert!(rt; buf.starts_with(b"hello"));
+}
+
+#[test]
+fn two_wires_meet_over_a_connection(rt: HostRuntime) {
+    let mut buf = [0u8; 8];
+    let mut first = TcpWire::new(&rt);
+    let mut second = TcpWire::new(&rt);
+    meet(&rt, &mut first, &mut second, "127.0.0.1:18613");
+    assert_told(&rt, &mut first, &mut second);
     drop(second);
     assert_eq!(rt; first.receive(&mut buf), Ok(0));
-    Ok(())
 }
