@@ -1,11 +1,12 @@
 //! The commands `sync` and `serve` over a wire and a shelf in memory, with what a peer of this project gives.
 
+ghost use Rattle.std.specs.Prelude.{◌≡◌, false};
+
 use crate::tests::given;
 use erlay_base::{MemShelf, MemSink, MemSource, MemWire};
 use erlay_cli::{Chance, run};
-use std::alloc::{AllocError, Global};
+use std::alloc::Global;
 use std::process::Abort;
-use std::test::Fail;
 
 /// The pool of the opener, that of the accepter, and what each has behind a round.
 const OPENER: &[u8] =
@@ -40,74 +41,102 @@ struct Ending {
 }
 
 /// The numbers of the calls that fail.
-fn calls_of(alloc: Global, failing: u64) -> Result<Vec<u64>, AllocError> {
+fn calls_of(rt: &impl Abort, alloc: Global, failing: u64) -> Vec<u64> {
     let mut calls = Vec::new(alloc);
     if failing > 0 {
-        calls.push(failing)?;
+        calls.push(failing).expect(rt, "memory");
     }
-    Ok(calls)
+    calls
 }
 
 /// The words of a command.
-fn words_of(alloc: Global, text: &str) -> Result<Vec<String>, AllocError> {
+fn words_of(rt: &impl Abort, alloc: Global, text: &str) -> Vec<String> {
     let mut words = Vec::new(alloc);
     for word in text.split(' ') {
-        words.push(word.to_string(alloc)?)?;
+        let word = word.to_string(alloc).expect(rt, "memory");
+        words.push(word).expect(rt, "memory");
     }
-    Ok(words)
+    words
+}
+
+/// A wire over which the front of these bytes comes, one by one.
+fn wire_of(rt: &impl Abort, alloc: Global, coming: &[u8], faults: Faults) -> MemWire
+    ensures { result.is_linked ≡ false }
+{
+    let front = &coming[..faults.len.min(coming.len())];
+    let bytes = front.to_vec(alloc).expect(rt, "memory");
+    MemWire::new(alloc, bytes, 1, calls_of(rt, alloc, faults.wire))
 }
 
 /// A shelf with a text under the name `pool`.
-fn shelf_of(alloc: Global, text: &[u8], failing: u64) -> Result<MemShelf, AllocError> {
+fn shelf_of(rt: &impl Abort, alloc: Global, text: &[u8], failing: u64) -> MemShelf {
+    let name = String::from_str(alloc, "pool").expect(rt, "memory");
+    let text = text.to_vec(alloc).expect(rt, "memory");
     let mut held = Vec::new(alloc);
-    held.push((String::from_str(alloc, "pool")?, text.to_vec(alloc)?))?;
-    Ok(MemShelf::new(alloc, held, calls_of(alloc, failing)?))
+    held.push((name, text)).expect(rt, "memory");
+    MemShelf::new(alloc, held, calls_of(rt, alloc, failing))
 }
 
-/// A copy of what the shelf has under the name `out`.
-fn saved(alloc: Global, shelf: &MemShelf) -> Result<Option<Vec<u8>>, AllocError> {
-    match shelf.content("out") {
-        Some(bytes) => Ok(Some(bytes.to_vec(alloc)?)),
-        None => Ok(None),
+/// What chance gives to the opener and to the accepter of the tests.
+fn chance_of(words: &str) -> Chance {
+    let salt = if words.starts_with("sync") { 1 } else { 2 };
+    Chance {
+        salt,
+        nonce: 0,
+        time: 0,
     }
 }
 
-/// A run over a wire over which the front of these bytes comes, one by one.
+/// The exit code of a run with these words.
+fn code_of(
+    rt: &impl Abort,
+    alloc: Global,
+    words: &str,
+    output: &mut MemSink,
+    wire: &mut MemWire,
+    shelf: &mut MemShelf,
+) -> u8
+    requires { wire.old.is_linked ≡ false }
+{
+    let mut input = MemSource::new(Vec::new(alloc), 1, Vec::new(alloc));
+    let list = words_of(rt, alloc, words);
+    let chance = chance_of(words);
+    run(
+        alloc,
+        list.as_slice(),
+        chance,
+        &mut input,
+        output,
+        wire,
+        shelf,
+    )
+    .code()
+}
+
+/// A copy of bytes, where there are some.
+fn copy(rt: &impl Abort, alloc: Global, bytes: Option<&[u8]>) -> Option<Vec<u8>> {
+    bytes.map(|bytes| bytes.to_vec(alloc).expect(rt, "memory"))
+}
+
+/// A run with these words over the text of a pool and what a peer sends.
 fn ending_of(
+    rt: &impl Abort,
     alloc: Global,
     words: &str,
     pool: &[u8],
     coming: &[u8],
     faults: Faults,
-) -> Result<Ending, AllocError> {
-    let salt = if words.starts_with("sync") { 1 } else { 2 };
-    let chance = Chance {
-        salt,
-        nonce: 0,
-        time: 0,
-    };
-    let bytes = coming[..faults.len.min(coming.len())].to_vec(alloc)?;
-    let mut wire = MemWire::new(alloc, bytes, 1, calls_of(alloc, faults.wire)?);
-    let mut shelf = shelf_of(alloc, pool, faults.shelf)?;
-    let mut input = MemSource::new(Vec::new(alloc), 1, Vec::new(alloc));
-    let mut output = MemSink::new(alloc, usize::MAX, calls_of(alloc, faults.output)?);
-    let words = words_of(alloc, words)?;
-    let words = words.as_slice();
-    let status = run(
-        alloc,
-        words,
-        chance,
-        &mut input,
-        &mut output,
-        &mut wire,
-        &mut shelf,
-    );
-    Ok(Ending {
-        code: status.code(),
-        text: output.written().to_vec(alloc)?,
-        sent: wire.sent().to_vec(alloc)?,
-        saved: saved(alloc, &shelf)?,
-    })
+) -> Ending {
+    let mut wire = wire_of(rt, alloc, coming, faults);
+    let mut shelf = shelf_of(rt, alloc, pool, faults.shelf);
+    let mut output = MemSink::new(alloc, usize::MAX, calls_of(rt, alloc, faults.output));
+    let code = code_of(rt, alloc, words, &mut output, &mut wire, &mut shelf);
+    Ending {
+        code,
+        text: output.written().to_vec(alloc).expect(rt, "memory"),
+        sent: wire.sent().to_vec(alloc).expect(rt, "memory"),
+        saved: copy(rt, alloc, shelf.content("out")),
+    }
 }
 
 /// No call fails, and all bytes come.
@@ -271,72 +300,79 @@ const SERVES: &[Case] = &[
     ),
 ];
 
-/// Runs each case over these bytes, and compares what it sent with what a peer was given.
-fn assert_cases(
-    rt: &impl Abort,
-    alloc: Global,
-    cases: &[Case],
-    coming: &[u8],
-    given: &[u8],
-) -> Result<(), Fail> {
-    for (words, pool, faults, code, text, saved) in cases {
-        let left = ending_of(alloc, words, pool, coming, *faults)?;
-        assert_eq!(rt; left.text.as_slice(), text.as_bytes(), "{words} {faults:?}");
-        assert_eq!(rt; left.code, *code, "{words} {faults:?}");
-        assert_eq!(rt; left.saved.as_deref(), *saved, "{words} {faults:?}");
-        let front = given.get(..left.sent.len());
-        assert_eq!(rt; front, Some(left.sent.as_slice()), "{words} {faults:?}");
-    }
-    Ok(())
+/// Runs a case over these bytes, and compares what it sent with what a peer was given.
+fn assert_case(rt: &impl Abort, alloc: Global, case: &Case, coming: &[u8], given: &[u8]) {
+    let (words, pool, faults, code, text, saved) = *case;
+    let ending = ending_of(rt, alloc, words, pool, coming, faults);
+    assert!(rt;
+        ending.text.as_slice() == text.as_bytes(),
+        "{words} {faults:?}"
+    );
+    assert!(rt; ending.code == code, "{words} {faults:?}");
+    assert!(rt; ending.saved.as_deref() == saved, "{words} {faults:?}");
+    assert!(rt;
+        given.starts_with(ending.sent.as_slice()),
+        "{words} {faults:?}"
+    );
 }
 
 #[test]
-fn synchronizations(rt: HostRuntime) -> Result<(), Fail> {
-    let alloc = rt.alloc();
-    let (by_opener, by_accepter) = given(&rt, alloc);
-    assert_cases(
-        &rt,
-        alloc,
-        SYNCS,
-        by_accepter.as_slice(),
-        by_opener.as_slice(),
-    )?;
-    assert_cases(
-        &rt,
-        alloc,
-        SERVES,
-        by_opener.as_slice(),
-        by_accepter.as_slice(),
-    )
-}
-
-/// Each call of the wire failing once: nothing is saved, and what was sent is a front of what is sent else.
-#[test]
-fn each_call_of_the_wire_failing(rt: HostRuntime) -> Result<(), Fail> {
-    let alloc = rt.alloc();
-    let (sent, coming) = given(&rt, alloc);
-    let mut call = 1;
-    loop {
-        let faults = Faults { wire: call, ..NONE };
-        let left = ending_of(
-            alloc,
-            "sync peer pool out",
-            OPENER,
-            coming.as_slice(),
-            faults,
-        )?;
-        if left.code == 0 {
-            break;
-        }
-        assert_eq!(rt;
-            (left.code, left.text.as_slice()),
-            (7, b"link fault\n".as_slice()),
-            "{call}"
+fn synchronizations(rt: HostRuntime) {
+    let (by_opener, by_accepter) = given(&rt, rt.alloc());
+    for case in SYNCS {
+        assert_case(
+            &rt,
+            rt.alloc(),
+            case,
+            by_accepter.as_slice(),
+            by_opener.as_slice(),
         );
-        assert!(rt; left.saved.is_none(), "{call}");
-        assert!(rt; sent.as_slice().starts_with(left.sent.as_slice()), "{call}");
-        call += 7;
     }
-    assert!(rt; call as usize > coming.len());
-    Ok(())
+    for case in SERVES {
+        assert_case(
+            &rt,
+            rt.alloc(),
+            case,
+            by_opener.as_slice(),
+            by_accepter.as_slice(),
+        );
+    }
+}
+
+/// Whether a call of the wire of this number is made; where it is, it fails: nothing is saved, and what was sent is a front
+/// of what is sent else.
+fn is_made(rt: &impl Abort, alloc: Global, call: u64, coming: &[u8], sent: &[u8]) -> bool {
+    let faults = Faults { wire: call, ..NONE };
+    let ending = ending_of(rt, alloc, "sync peer pool out", OPENER, coming, faults);
+    if ending.code == 0 {
+        return false;
+    }
+    assert!(rt; ending.code == 7, "{call}");
+    assert!(rt;
+        ending.text.as_slice() == b"link fault\n".as_slice(),
+        "{call}"
+    );
+    assert!(rt; ending.saved.is_none(), "{call}");
+    assert!(rt; sent.starts_with(ending.sent.as_slice()), "{call}");
+    true
+}
+
+/// Each seventh call of the wire failing once.
+#[test]
+fn calls_of_the_wire_failing(rt: HostRuntime) {
+    let (sent, coming) = given(&rt, rt.alloc());
+    let mut made = 0;
+    for number in 0..120 {
+        if is_made(
+            &rt,
+            rt.alloc(),
+            7 * number + 1,
+            coming.as_slice(),
+            sent.as_slice(),
+        ) {
+            made = number + 1;
+        }
+    }
+    // at least a receive for each byte that comes
+    assert!(rt; 7 * made > coming.len() as u64);
 }
