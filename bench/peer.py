@@ -33,7 +33,7 @@ class Program:
     """Runs of the program, with pools in files of a folder."""
 
     def __init__(self, file, folder):
-        self.file, self.folder, self.runs = os.path.abspath(file), folder, 0
+        self.file, self.folder, self.runs, self.out = os.path.abspath(file), folder, 0, os.path.join(folder, "out")
 
     def words(self, command, address, pool):
         self.runs += 1
@@ -55,8 +55,8 @@ class Program:
                 return listener.accept()[0], process
         port = free_port()
         process = self.start(self.words("serve", f"{host}:{port}", pool))
-        if process.stdout.readline() != b"listening\n":
-            raise Failure("no listening")
+        if (line := process.stdout.readline()) != b"listening\n":
+            raise Failure(f"wrote {line} and not that it listens, and ended with {self.ended(process)}")
         return socket.create_connection((host, port), PATIENCE), process
 
     def ended(self, process):
@@ -253,15 +253,15 @@ def mirror(command, pool, talk, told):
     return node, rounds
 
 
-def judge(command, pool, talk, got, told, front):
-    """Compares a run with its mirror; its text, behind what it wrote in front."""
+def judge(command, pool, talk, got, told):
+    """Compares a run with its mirror; its text."""
     node, rounds = mirror(command, pool, talk, told)
     status, text = outcome_of(node, rounds)
     saved = pool_text(node.pool) if status == 0 else None
     given = bytes(node.out)
     if status != 4 and given != talk.received or not given.startswith(talk.received):
         raise Failure(f"sent\n{lines_in(talk.received)}\nand not\n{lines_in(given)}")
-    if got[:2] != (status, front + text):
+    if got[:2] != (status, text):
         raise Failure(f"ended with {got[0]} {got[1]!r}, and not {status} {text!r}")
     if got[2] != saved:
         raise Failure("saved another pool")
@@ -320,7 +320,7 @@ class Cases:
                 talk = converse(sock, node, plan)
         finally:
             got = self.subject.ended(run)
-        text = judge(command, pool, talk, got, told, "listening\n" if command == "serve" and isinstance(self.subject, Program) else "")
+        text = judge(command, pool, talk, got, told)
         if refuses is not None and not text.startswith("refused " + refuses):
             raise Failure(f"{text!r}, and not refused {refuses}")
         if refuses is None and node.end is not None:
@@ -480,7 +480,7 @@ def ran(program, words, status, text, stdout=subprocess.PIPE):
     if stdout != subprocess.PIPE:
         got = process.wait(PATIENCE), ""
     else:
-        got = program.ended(process)[1::-1][::-1]
+        got = program.ended(process)[:2]
     if got != (status, text):
         raise Failure(f"ended with {got}, and not {(status, text)}")
     return f"{status} {text.strip()}"
@@ -514,7 +514,7 @@ def reset(program, command):
     sock.setsockopt(socket.SOL_SOCKET, socket.SO_LINGER, struct.pack("ii", 1, 0))
     sock.close()
     got = program.ended(process)
-    if got != (7, ("listening\n" if command == "serve" else "") + "link fault\n", None):
+    if got != (7, "link fault\n", None):
         raise Failure(f"ended with {got}")
     return "7 link fault"
 
@@ -588,7 +588,7 @@ def unsaved(cases, program, command, out):
     try:
         cases.talk(command, COMMON + OURS, THEIRS)
     except Failure as failure:
-        if "ended with 8 'shelf fault\\n'" in str(failure) or "ended with 8 'listening\\nshelf fault\\n'" in str(failure):
+        if "ended with 8 'shelf fault\\n'" in str(failure):
             return "8 shelf fault"
         raise
     finally:
