@@ -1,7 +1,7 @@
 #!/usr/bin/env python3
 """A peer of another make against `erlay sync` and `erlay serve`, over 127.0.0.1.
 
-  bench/peer.py [--program FILE] [--only WORDS] [--seed N]
+  bench/peer.py [--program FILE] [--only WORDS] [--seed N] [--long]
   bench/peer.py --self [--only WORDS] [--seed N]
   bench/peer.py --transcript [--program FILE | --self]
 
@@ -13,6 +13,7 @@ how it has to end, with what text, and which pool it has to save. What is refuse
 
 A line a case is printed, and then how many there were; the status is 1 where one fails. With --self the program's place is taken
 by the same Python node at the other end of a socket pair, which tries the script; the cases of files and addresses are left out.
+With --long each command is sent bytes up to the limit of a session, too, which is 1 GiB.
 --transcript prints one session of the example pools, as lines of `show` in the order in which the messages were sent.
 """
 import argparse, os, random, select, socket, struct, subprocess, sys, tempfile, threading, time
@@ -620,6 +621,29 @@ def one_file(cases, program):
         program.words = words
 
 
+def limits(cases, program):
+    """A peer that sends other commands without end."""
+    for command in ("sync", "serve"):
+        cases.case(f"{command}, the peer sends without end", lambda: endless(program, command))
+
+
+def endless(program, command):
+    sock, process = program.connected(command, pool_of(OURS))
+    block, sent = frame(b"filler", bytes(4_000_000)), 0
+    with sock:
+        sock.settimeout(PATIENCE)
+        try:
+            while sent < 1 << 31:
+                sock.sendall(block)
+                sent += len(block)
+        except ConnectionError:
+            pass
+    got = program.ended(process)
+    if got != (10, f"too long {1 << 30}\n", None):
+        raise Failure(f"ended with {got}")
+    return f"10 too long {1 << 30}, and {sent:,} bytes were taken"
+
+
 # ---- the transcript
 
 def transcript(subject, program):
@@ -653,6 +677,7 @@ def main():
     words.add_argument("--transcript", action="store_true")
     words.add_argument("--only", default="", help="the cases whose names have these words")
     words.add_argument("--seed", type=int, default=1)
+    words.add_argument("--long", action="store_true")
     words = words.parse_args()
     random.seed(words.seed)
     with tempfile.TemporaryDirectory(prefix="erlay-bench-", dir="/tmp") as folder:
@@ -667,6 +692,8 @@ def main():
         if not words.is_alone:
             addresses(cases, subject)
             files(cases, subject)
+        if words.long and not words.is_alone:
+            limits(cases, subject)
     print(f"{cases.count} cases, {cases.failed} failed")
     sys.exit(1 if cases.failed else 0)
 
