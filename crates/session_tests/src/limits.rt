@@ -77,21 +77,27 @@ impl Wire for Repeating {
     }
 }
 
-/// A wire over which an opener's handshake comes, and then the largest frame of an unknown command, again and again.
-fn peer_wire(rt: &impl Abort, alloc: Global) -> Repeating {
+/// Puts a frame behind bytes.
+fn put_frame(rt: &impl Abort, command: [u8; 12], payload: &[u8], bytes: &mut Vec<u8>) {
+    let frame = FrameRef { command, payload };
+    assert!(rt; is_frame(&frame));
+    write_lent_frame([0xF9, 0xBE, 0xB4, 0xD9], &frame, bytes).expect(rt, "memory");
+}
+
+/// An opener's handshake.
+fn handshake(rt: &impl Abort, alloc: Global) -> Vec<u8> {
     let (by_opener, _) = given(rt, alloc);
-    let mut bytes = by_opener[..203.min(by_opener.len())]
-        .to_vec(alloc)
-        .expect(rt, "memory");
+    let front = &by_opener[..203.min(by_opener.len())];
+    front.to_vec(alloc).expect(rt, "memory")
+}
+
+/// A wire over which an opener's handshake comes, and then the largest frame of an unknown command, again and again.
+fn peer_wire(rt: &impl Abort, alloc: Global) -> RepeatingWire {
+    let mut bytes = handshake(rt, alloc);
     let again = bytes.len();
     let payload = vec![in alloc; 7u8; PAYLOAD_LIMIT].expect(rt, "memory");
-    let frame = FrameRef {
-        command: *b"other\0\0\0\0\0\0\0",
-        payload: payload.as_slice(),
-    };
-    assert!(rt; is_frame(&frame));
-    write_lent_frame([0xF9, 0xBE, 0xB4, 0xD9], &frame, &mut bytes).expect(rt, "memory");
-    Repeating {
+    put_frame(rt, *b"other\0\0\0\0\0\0\0", payload.as_slice(), &mut bytes);
+    RepeatingWire {
         bytes,
         again,
         at: 0,
