@@ -92,12 +92,12 @@ fn handshake(rt: &impl Abort, alloc: Global) -> Vec<u8> {
 }
 
 /// A wire over which an opener's handshake comes, and then the largest frame of an unknown command, again and again.
-fn peer_wire(rt: &impl Abort, alloc: Global) -> RepeatingWire {
+fn peer_wire(rt: &impl Abort, alloc: Global) -> Repeating {
     let mut bytes = handshake(rt, alloc);
     let again = bytes.len();
     let payload = vec![in alloc; 7u8; PAYLOAD_LIMIT].expect(rt, "memory");
     put_frame(rt, *b"other\0\0\0\0\0\0\0", payload.as_slice(), &mut bytes);
-    RepeatingWire {
+    Repeating {
         bytes,
         again,
         at: 0,
