@@ -300,6 +300,18 @@ const SERVES: &[Case] = &[
     ),
 ];
 
+/// A peer that begins with `verack`.
+const VERACK: &[u8] = b"\xf9\xbe\xb4\xd9verack\0\0\0\0\0\0\0\0\0\0\x5d\xf6\xe0\xe2";
+
+const REFUSAL: Case = (
+    "serve here pool out",
+    ACCEPTER,
+    NONE,
+    4,
+    "listening\nrefused handshake verack\n",
+    None,
+);
+
 /// Runs a case over these bytes, and compares what it sent with what a peer was given.
 fn assert_case(rt: &impl Abort, alloc: Global, case: &Case, coming: &[u8], given: &[u8]) {
     let (words, pool, faults, code, text, saved) = *case;
@@ -337,6 +349,7 @@ fn synchronizations(rt: HostRuntime) {
             by_accepter.as_slice(),
         );
     }
+    assert_case(&rt, rt.alloc(), &REFUSAL, VERACK, &[]);
 }
 
 /// Whether a call of the wire of this number is made; where it is, it fails: nothing is saved, and what was sent is a front
