@@ -1,0 +1,4 @@
+mod CorrelationSums
+mod Equal
+mod HalfLists
+mod RowLists
