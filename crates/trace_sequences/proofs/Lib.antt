@@ -2,3 +2,4 @@ mod CorrelationSums
 mod Equal
 mod HalfLists
 mod RowLists
+mod Scattered

@@ -5,6 +5,7 @@ mod correlations;
 mod rows;
 mod sequence;
 mod squares;
+mod taps;
 mod traces;
 
 pub use correlations::all_correlations;

@@ -10,8 +10,8 @@ ghost use Rattle.sequence_laws.specs.Sequences.{IsUnit, row_of, sequence_of};
 ghost use Rattle.trace_sequences.specs.Rows.{AreRows};
 
 use crate::Sequence;
-use crate::correlations::zeros;
-use crate::squares::{Halves, halves_of, square_sequence};
+use crate::squares::{halves_of, square_sequence};
+use crate::taps::{Taps, zeros};
 use base_types::OutOfMemory;
 use field_core::Field;
 use poly_ops::Poly;
@@ -27,11 +27,13 @@ pub fn rows_of<F: Field>(alloc: Global, f: &Poly<F>) -> Result<Vec<Sequence<F>>,
 {
     let n = f.coeffs().len() - 1;
     let halves = halves_of(alloc, f.coeffs())?;
+    let even = Taps::for_many(alloc, halves.even.as_slice())?;
+    let odd = Taps::for_many(alloc, halves.odd.as_slice())?;
     let sums = unit_sums(alloc, f.coeffs(), n / 4 + 2)?;
     let count = F::BITS as usize + 1;
     let mut rows = Vec::with_capacity(alloc, count)?;
     for _ in 0..count {
-        let row = next_row(alloc, &halves, sums.as_slice(), n, rows.as_slice())?;
+        let row = next_row(alloc, &even, &odd, sums.as_slice(), n, rows.as_slice())?;
         rows.push(Sequence::new(row))?;
     }
     Ok(rows)
@@ -58,23 +60,24 @@ fn unit_sums<F: Field>(alloc: Global, f: &[F], count: usize) -> Result<Vec<F>, O
 /// The next row. The first stand in the sums of the unit, each further one is made of the one before.
 fn next_row<F: Field>(
     alloc: Global,
-    halves: &Halves<F>,
+    even: &Taps<F>,
+    odd: &Taps<F>,
     sums: &[F],
     n: usize,
     rows: &[Sequence<F>],
 ) -> Result<Vec<F>, OutOfMemory>
     requires sums { (2 ≤ length sums.now) × (length sums.now ≤ n) }
     requires sizes { All (λ r. length r ≡ n) rows.now }
-    requires odd { length halves.now.odd.items ≡ (n + 1) / 2 }
-    requires even { length halves.now.even.items ≡ n / 2 + 1 }
+    requires odd { length odd.now ≡ (n + 1) / 2 }
+    requires even { length even.now ≡ n / 2 + 1 }
     ensures size { IfOk result (λ row. length row.items ≡ n) }
     ensures row { (es f : List F) (u : F → F) → AreDistinct es → f ≡ with_roots F.ops es → IsUnit F.ops u es → length es ≡ n
-        → halves.now.even.items ≡ evens f → halves.now.odd.items ≡ odds f → sums.now ≡ sequence_of F.ops u es (length es - 1) (length sums.now) → AreRows F.ops u es rows.now
+        → even.now ≡ evens f → odd.now ≡ odds f → sums.now ≡ sequence_of F.ops u es (length es - 1) (length sums.now) → AreRows F.ops u es rows.now
         → IfOk result (λ row. row.items ≡ row_of F.ops u es (length rows.now)) }
 {
     match power_below(rows.len(), sums.len()) {
         Some(power) => row_in_sums(alloc, sums, n, power),
-        None => square_sequence(alloc, halves, rows[rows.len() - 1].as_slice()),
+        None => square_sequence(alloc, even, odd, rows[rows.len() - 1].as_slice()),
     }
 }
 

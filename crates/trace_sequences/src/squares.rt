@@ -5,7 +5,7 @@ ghost use Rattle.sequence_laws.specs.Halves.{evens, odds};
 ghost use Rattle.sequence_laws.specs.Sequences.{squares_of, IsSquareSequence};
 ghost use Rattle.trace_sequences.specs.Woven.{AreWoven};
 
-use crate::correlations::correlation;
+use crate::taps::Taps;
 use base_types::OutOfMemory;
 use field_core::Field;
 use std::alloc::Global;
@@ -37,18 +37,19 @@ pub fn halves_of<F: Field>(alloc: Global, f: &[F]) -> Result<Halves<F>, OutOfMem
 /// The correlations of the odd half with the squares of `s` at even indices, and those of the even half at odd ones.
 pub fn square_sequence<F: Field>(
     alloc: Global,
-    halves: &Halves<F>,
+    even: &Taps<F>,
+    odd: &Taps<F>,
     s: &[F],
 ) -> Result<Vec<F>, OutOfMemory>
-    requires odd { length s.now - length s.now / 2 + length halves.now.odd.items ≤ length s.now + 1 }
-    requires even { length s.now / 2 + length halves.now.even.items ≤ length s.now + 1 }
+    requires odd { length s.now - length s.now / 2 + length odd.now ≤ length s.now + 1 }
+    requires even { length s.now / 2 + length even.now ≤ length s.now + 1 }
     ensures size { IfOk result (λ t. length t.items ≡ length s.now) }
-    ensures square { (f : List F) → halves.now.even.items ≡ evens f → halves.now.odd.items ≡ odds f → IfOk result (λ t. IsSquareSequence F.ops f s.now t.items) }
+    ensures square { (f : List F) → even.now ≡ evens f → odd.now ≡ odds f → IfOk result (λ t. IsSquareSequence F.ops f s.now t.items) }
 {
     let n = s.len();
     let squares = squared(alloc, s)?;
-    let at_even = correlation(alloc, halves.odd.as_slice(), squares.as_slice(), n - n / 2)?;
-    let at_odd = correlation(alloc, halves.even.as_slice(), squares.as_slice(), n / 2)?;
+    let at_even = odd.correlation(alloc, squares.as_slice(), n - n / 2)?;
+    let at_odd = even.correlation(alloc, squares.as_slice(), n / 2)?;
     woven(alloc, at_even.as_slice(), at_odd.as_slice())
 }
 

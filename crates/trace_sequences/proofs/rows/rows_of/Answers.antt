@@ -10,11 +10,11 @@ use Rattle.trace_sequences.proofs.rows.rows_of.Goals as goal
 
 pub next_row-requires-clause-odd : goal.next_row-requires-clause-odd
 next_row-requires-clause-odd g c =
-    omega (arith, ap length c.in_ok-halves.ensures.odd, length-halves c.coeffs-2.result.now, (halves_even c.coeffs-2.result.now).0, (halves_even c.coeffs-2.result.now).1, ap length c.coeffs-2.ensures.value, ap length c.coeffs.ensures.value, c.requires)
+    omega (arith, ap length c.in_ok-odd.ensures, ap length c.as_slice-2.ensures.value, ap length c.in_ok-halves.ensures.odd, length-halves c.coeffs-2.result.now, (halves_even c.coeffs-2.result.now).0, (halves_even c.coeffs-2.result.now).1, ap length c.coeffs-2.ensures.value, ap length c.coeffs.ensures.value, c.requires)
 
 pub next_row-requires-clause-even : goal.next_row-requires-clause-even
 next_row-requires-clause-even g c =
-    omega (arith, ap length c.in_ok-halves.ensures.even, length-halves c.coeffs-2.result.now, (halves_even c.coeffs-2.result.now).0, (halves_even c.coeffs-2.result.now).1, ap length c.coeffs-2.ensures.value, ap length c.coeffs.ensures.value, c.requires)
+    omega (arith, ap length c.in_ok-even.ensures, ap length c.as_slice.ensures.value, ap length c.in_ok-halves.ensures.even, length-halves c.coeffs-2.result.now, (halves_even c.coeffs-2.result.now).0, (halves_even c.coeffs-2.result.now).1, ap length c.coeffs-2.ensures.value, ap length c.coeffs.ensures.value, c.requires)
 
 pub loop-preserved : goal.loop-preserved
 loop-preserved g c =
@@ -28,10 +28,10 @@ loop-preserved g c =
           (c.new.ensures
           ∙ c.in_ok-row.ensures.row es c.coeffs-2.result.now u differ (c.coeffs-2.ensures.value ∙ is) unit
           (omega (arith, size_of_set g.F.Field.ops g.met.F.Field.ring c.args.f.now es is, ap length c.coeffs.ensures.value))
-          c.in_ok-halves.ensures.even c.in_ok-halves.ensures.odd
-          (c.as_slice.ensures.value ∙ c.in_ok-sums.ensures.sums es u (c.coeffs-3.ensures.value ∙ is) unit
-          ∙ ap (sequence_of g.F.Field.ops u es (length es - 1)) (sym c.in_ok-sums.ensures.size ∙ sym (ap length c.as_slice.ensures.value)))
-          (subst (AreRows g.F.Field.ops u es) (sym c.as_slice-in-loop.ensures.value) (c.loop.invariant.rows es u differ is unit))
-          ∙ ap (λ z. row_of g.F.Field.ops u es (length z)) c.as_slice-in-loop.ensures.value)
+          (c.in_ok-even.ensures ∙ c.as_slice.ensures.value ∙ c.in_ok-halves.ensures.even) (c.in_ok-odd.ensures ∙ c.as_slice-2.ensures.value ∙ c.in_ok-halves.ensures.odd)
+          (c.as_slice-in-loop.ensures.value ∙ c.in_ok-sums.ensures.sums es u (c.coeffs-3.ensures.value ∙ is) unit
+          ∙ ap (sequence_of g.F.Field.ops u es (length es - 1)) (sym c.in_ok-sums.ensures.size ∙ sym (ap length c.as_slice-in-loop.ensures.value)))
+          (subst (AreRows g.F.Field.ops u es) (sym c.as_slice-in-loop-2.ensures.value) (c.loop.invariant.rows es u differ is unit))
+          ∙ ap (λ z. row_of g.F.Field.ops u es (length z)) c.as_slice-in-loop-2.ensures.value)
           items;
     }
