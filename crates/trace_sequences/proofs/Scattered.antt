@@ -87,8 +87,17 @@ module _ {A : Type 0} (ops : Ops A) (ring : IsRing ops) where
 
       whole : length (put_mid first m v part) ≡ n
       whole =
-          omega (arith, length-append (take first v) (part ++ drop m (drop first v)), length-append part (drop m (drop first v)), length-take-le first v (omega (arith, h.size, ends.0)),
-          length-drop m (drop first v), length-drop first v, part_size, h.size, ends.0)
+          omega (
+            arith,
+            length-append (take first v) (part ++ drop m (drop first v)),
+            length-append part (drop m (drop first v)),
+            length-take-le first v (omega (arith, h.size, ends.0)),
+            length-drop m (drop first v),
+            length-drop first v,
+            part_size,
+            h.size,
+            ends.0,
+          )
 
       by : (k : ℕ) → k < n → (k < first) ⊎ (first ≤ k) → (k < end) ⊎ (end ≤ k) → coefficient ops (put_mid first m v part) k ≡ dot_of ops t (drop k (take (j + 1) items))
       by k lt (inl before) c =
