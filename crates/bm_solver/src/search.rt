@@ -78,11 +78,13 @@ impl<'a, F: Field> Search<'a, F> {
         self.solver.current.monic.len() - 1
     }
 
-    /// What the next item and the recurrence's foretelling of it differ by.
+    /// What the next item and the recurrence's foretelling of it differ by. The recurrence is a shortest one of the items
+    /// that are read.
     pub fn discrepancy(&self) -> F
         requires { self.now.read < length self.now.items }
-        ensures { result ≡ dot_of F.ops (reverse (F.ops.one ∷ self.now.recurrence))
+        ensures value { result ≡ dot_of F.ops (reverse (F.ops.one ∷ self.now.recurrence))
             (drop (self.now.read - length self.now.recurrence) self.now.items) }
+        ensures shortest { IsShortest F.ops self.now.recurrence (take self.now.read self.now.items) }
     {
         self.solver.current.discrepancies[self.solver.read]
     }

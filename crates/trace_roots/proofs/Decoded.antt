@@ -32,4 +32,4 @@ module _ {A : Type 0} (ops : Ops A) (ring : IsRing ops) (bits_of : A → ℕ) (w
       no_answer width (map bits_of m)
       (λ ns answer.
       let sums : HasSums ops bits_of s ns = set_of_answer ops ring bits_of width field numbered m s ns all answer in
-      absurd (omega (arith, long, all.size, sums.few, locator_of_set ops ring bits_of width field numbered sums.members s cs sums.set sums.few sums.sums shortest)))
+      absurd (omega (arith, long, all.size, sums.few, (locator_of_set ops ring bits_of width field numbered sums.members s cs sums.set sums.few sums.sums shortest).0)))

@@ -1,5 +1,5 @@
 -- The set that a sketch is of, as elements, and how it is found.
-use Rattle.std.proofs.Common.{◌≡◌, ℕ, ◌+◌, ◌*◌, ◌^◌, ◌<◌, ◌≤◌, List, [], ◌∷◌, length, get_or, map, take, reverse, refl, sym, ap, subst, ◌∙◌, arith, Option, Some, None}
+use Rattle.std.proofs.Common.{◌≡◌, ℕ, ◌+◌, ◌*◌, ◌^◌, ◌<◌, ◌≤◌, List, [], ◌∷◌, length, get_or, map, reverse, refl, sym, ap, subst, ◌∙◌, arith, Option, Some, None}
 use Rattle.std.specs.Ordering.{nat_cmp, is_lt}
 use Rattle.std.specs.declared.cmp.Ordering.{Ordering}
 use Rattle.std.specs.List.Sorted.{IsNonDecreasingBy, IsPermutation, IsSorted}
@@ -18,8 +18,8 @@ use Rattle.sketch_laws.proofs.Rising.{AllPairs-from_IsAscending, each_within}
 use Rattle.sketch_laws.proofs.SketchNumbers.{sketch_by-numbers}
 use Rattle.splitting_laws.proofs.Permutations.{ascending_only}
 use Rattle.splitting_laws.proofs.Recurrences.{shortest_of_set}
-use Rattle.splitting_laws.proofs.Windows.{take-power_sums}
-use Rattle.trace_roots.specs.Parts.{IsSet, IsPart}
+use Rattle.poly_rules.specs.Roots.{with_roots}
+use Rattle.trace_roots.specs.Parts.{IsSet}
 use Rattle.trace_roots.proofs.Answering.{nonzero_of_rises, distinct_of_rises}
 
 -- a list of no items
@@ -90,24 +90,11 @@ module _ {A : Type 0} (ops : Ops A) (ring : IsRing ops) (bits_of : A → ℕ) (w
           ∙ ap (sketch_at width (map bits_of es)) (length-map m bits_of)
           ∙ sym (sketch_by-numbers ops bits_of width numbered es (length m)))
 
-  -- its shortest recurrence is as long as the set is large
-  pub locator_of_set : (es s cs : List A) → IsSet ops es → 2 * length es ≤ length s → s ≡ power_sums ops es 1 (length s) → IsShortest ops cs s → length cs ≡ length es
+  -- its shortest recurrence is as long as the set is large, and has its polynomial
+  pub locator_of_set : (es s cs : List A) → IsSet ops es → 2 * length es ≤ length s → s ≡ power_sums ops es 1 (length s) → IsShortest ops cs s
+      → (length cs ≡ length es) × (reverse (ops.one ∷ cs) ≡ with_roots ops es)
   locator_of_set es s cs set few is shortest =
-      (shortest_of_set ops ring width field cs es (length s) set.distinct set.nonzero few (subst (IsShortest ops cs) is shortest)).0
-
-  -- the whole set as the part that is to be taken apart
-  pub whole_part : (es s cs f front : List A) (traces : List (List A)) → IsSet ops es → 2 * length es ≤ length s → s ≡ power_sums ops es 1 (length s) → IsShortest ops cs s
-      → f ≡ reverse (ops.one ∷ cs) → front ≡ take (2 * length cs) s → traces ≡ [] → IsPart ops bits_of width 0 es f front traces
-  whole_part es s cs f front traces set few is shortest f_is front_is none = record {
-    set = set;
-    locator_is = f_is ∙ (shortest_of_set ops ring width field cs es (length s) set.distinct set.nonzero few (subst (IsShortest ops cs) is shortest)).1;
-    sums_are =
-        front_is
-        ∙ ap (λ n. take (2 * n) s) (locator_of_set es s cs set few is shortest)
-        ∙ ap (take (2 * length es)) is
-        ∙ take-power_sums ops es 1 (2 * length es) (length s) few;
-    traces_are = λ i lt. absurd (omega (arith, ap length none));
-  }
+      shortest_of_set ops ring width field cs es (length s) set.distinct set.nonzero few (subst (IsShortest ops cs) is shortest)
 
   -- what was found, sorted, is the set
   pub found_is_set : (es xs ys : List A) → IsNonDecreasingBy bits_of es → IsPermutation es xs → IsPermutation xs ys → IsNonDecreasingBy bits_of ys → es ≡ ys

@@ -1,13 +1,12 @@
-//! The set that a sketch is of, found by splitting its sums by traces.
+//! The set that a sketch is of, found by taking it apart by traces.
 #![tactic(auto)]
 
 mod check;
-mod correlations;
 mod decoding;
+mod half;
 mod members;
 mod part;
 mod splitting;
-mod traces;
 
 pub use decoding::decode;
 pub use splitting::split;

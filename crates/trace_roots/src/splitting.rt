@@ -1,12 +1,13 @@
 //! The set that has given sums.
 
-ghost use Rattle.std.specs.Prelude.{◌≡◌, ℕ, ◌*◌, ◌≤◌, List, length, map, IfOk, IfSome, IsSome, OnOk};
+ghost use Rattle.std.specs.Prelude.{◌≡◌, ℕ, ◌*◌, ◌≤◌, List, ◌∷◌, length, map, reverse, IfOk, IfSome, IsSome, OnOk};
 ghost use Rattle.std.specs.List.Sorted.{IsPermutation};
-ghost use Rattle.sketch_rules.specs.PowerSums.{IsAllSums, power_sums};
+ghost use Rattle.field_rules.specs.Lists.{AreDistinct};
+ghost use Rattle.sketch_rules.specs.PowerSums.{IsAllSums};
 ghost use Rattle.sketch_rules.specs.Sketches.{IsCapacity};
 ghost use Rattle.sketch_rules.specs.Answers.{answer_at};
 ghost use Rattle.poly_rules.specs.Recurrences.{IsShortest};
-ghost use Rattle.trace_roots.specs.Parts.{IsSet};
+ghost use Rattle.poly_rules.specs.Roots.{with_roots};
 ghost use Rattle.std.specs.Option.{option_map};
 
 use crate::check::is_answer;
@@ -30,7 +31,7 @@ pub fn split<F: Field>(
     requires fits { 2 * length locator.now ≤ length sums.now }
     ensures { (m : List F) → IsAllSums F.ops m sums.now → IfOk result (λ found. option_map (λ v. map F.bits_of v.items) found ≡ answer_at F.BITS (map F.bits_of m)) }
 {
-    let Some(mut members) = candidates(alloc, locator, sums)? else {
+    let Some(mut members) = candidates(alloc, locator)? else {
         return Ok(None);
     };
     members.sort()?;
@@ -41,16 +42,11 @@ pub fn split<F: Field>(
     }
 }
 
-/// The members of the set that has these sums, in any order. Where no set has them, what is found has no meaning.
-fn candidates<F: Field>(
-    alloc: Global,
-    locator: &Locator<F>,
-    sums: &[F],
-) -> Result<Option<Vec<F>>, OutOfMemory>
-    requires shortest { IsShortest F.ops locator.now sums.now }
-    requires fits { 2 * length locator.now ≤ length sums.now }
-    ensures found { (es : List F) → IsSet F.ops es → 2 * length es ≤ length sums.now → sums.now ≡ power_sums F.ops es 1 (length sums.now) → IfOk result IsSome }
-    ensures members { (es : List F) → IsSet F.ops es → 2 * length es ≤ length sums.now → sums.now ≡ power_sums F.ops es 1 (length sums.now)
+/// The members of the set whose polynomial is the recurrence's monic form, in any order. Where it is no set's, what is
+/// found has no meaning.
+fn candidates<F: Field>(alloc: Global, locator: &Locator<F>) -> Result<Option<Vec<F>>, OutOfMemory>
+    ensures found { (es : List F) → AreDistinct es → reverse (F.ops.one ∷ locator.now) ≡ with_roots F.ops es → IfOk result IsSome }
+    ensures members { (es : List F) → AreDistinct es → reverse (F.ops.one ∷ locator.now) ≡ with_roots F.ops es
         → IfOk result (λ found. IfSome found (λ v. IsPermutation es v.items)) }
 {
     let n = locator.length();
@@ -60,7 +56,6 @@ fn candidates<F: Field>(
     }
     let part = Part {
         locator: monic(alloc, locator)?,
-        sums: Vec::from_slice(alloc, &sums[..2 * n])?,
         traces: Vec::new(alloc),
     };
     if find_members(alloc, part, 0, &mut found)? {

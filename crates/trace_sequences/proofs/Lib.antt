@@ -1,0 +1,5 @@
+mod CorrelationSums
+mod Equal
+mod HalfLists
+mod RowLists
+mod Scattered
