@@ -1,8 +1,8 @@
 //! What a node answers to its peer, whatever that sends: whole, and one byte at a time.
 
 use crate::lines::{
-    ACCEPTER_OFFER, NO_RELAY, OFFER, OLD_VERSION, OPENER_OFFER, VERACK, VERSION, WTXIDRELAY,
-    frames_of, text_of,
+    ACCEPTER_OFFER, GREETING, NO_RELAY, OFFER, OLD_VERSION, OPENER_OFFER, VERACK, VERSION,
+    WTXIDRELAY, frames_of, text_of,
 };
 use crate::nodes::{added, node_over, told_of};
 use node_rules::{Added, Role};
@@ -330,11 +330,14 @@ const SKETCHES: &[(usize, &[&str])] = &[
     ),
 ];
 
+/// What comes behind an end.
+const PIECES: &[&[u8]] = &[b"", b"\xf9\xbe", b"\x00"];
+
 /// A stop that a node answers, it answers again: it has ended, and holds no bytes.
 fn stays_ended(rt: &impl Abort, alloc: Global, node: &mut Node, stop: Stop) -> Result<(), Fail> {
     let end = node.end();
     assert!(rt; end.is_some_and(|end| stop == Stop::Ended(end)));
-    for piece in [b"".as_slice(), b"\xf9\xbe", b"\x00"] {
+    for piece in PIECES {
         assert!(rt; node.take(piece) == Err(stop));
     }
     assert!(rt; added(rt, alloc, node, b"more")? == Added::Ended);
@@ -396,10 +399,12 @@ fn transactions_are_asked_for_and_served(rt: HostRuntime) -> Result<(), Fail> {
     answers_each(&rt, rt.alloc(), TRANSACTIONS)
 }
 
+const NO_TRANSACTIONS: &[&str] = &[];
+
 /// An opener with an empty pool that waits for the first sketch of its first round.
 fn waiting_opener(rt: &impl Abort, alloc: Global) -> Result<Node, Fail> {
-    let mut node = node_over(rt, alloc, Role::Opener, &[])?;
-    let greeting = frames_of(alloc, &[VERSION, WTXIDRELAY, OFFER, VERACK])?;
+    let mut node = node_over(rt, alloc, Role::Opener, NO_TRANSACTIONS)?;
+    let greeting = frames_of(alloc, GREETING)?;
     node.take(greeting.as_slice())?;
     assert!(rt; node.begin_round()?);
     Ok(node)

@@ -27,10 +27,17 @@ fn has_no_room(rt: &impl Abort, alloc: Global, node: &mut Node) -> Result<(), Fa
     Ok(())
 }
 
-/// Announcements of the last transaction, and of one more: their ids are those of the bytes 4f c3 and 50 c3.
-const LAST: &str = "inv 5:c2995cc7210a344cacce43bb5b43bb885bde9b0fad8d390a063df579d0d61108";
+/// What a peer says first, with an announcement of the last transaction, and one of a transaction more: their ids are those
+/// of the bytes 4f c3 and 50 c3.
+const LAST: &[&str] = &[
+    VERSION,
+    WTXIDRELAY,
+    OFFER,
+    VERACK,
+    "inv 5:c2995cc7210a344cacce43bb5b43bb885bde9b0fad8d390a063df579d0d61108",
+];
 
-const MORE: &str = "inv 5:48e484497ed0a35e83c5bdb53933cffecf4202956f0736be3454d143052405e5";
+const MORE: &[&str] = &["inv 5:48e484497ed0a35e83c5bdb53933cffecf4202956f0736be3454d143052405e5"];
 
 /// What is told of the node.
 const TOLD: &[&str] = &[
@@ -48,10 +55,10 @@ fn a_node_over_a_full_pool_has_no_room(rt: HostRuntime) -> Result<(), Fail> {
     let alloc = rt.alloc();
     let mut node = full_node(&rt, alloc)?;
     has_no_room(&rt, alloc, &mut node)?;
-    let greeting = frames_of(alloc, &[VERSION, WTXIDRELAY, OFFER, VERACK, LAST])?;
+    let greeting = frames_of(alloc, LAST)?;
     node.take(greeting.as_slice())?;
     has_no_room(&rt, alloc, &mut node)?;
-    let more = frames_of(alloc, &[MORE])?;
+    let more = frames_of(alloc, MORE)?;
     assert!(rt; node.take(more.as_slice()) == Err(Stop::Ended(End::PoolFull)));
     let told = text_of(alloc, TOLD)?;
     assert_eq!(rt; told_of(alloc, Side::B, &node)?.as_slice(), told.as_slice());

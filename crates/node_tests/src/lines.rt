@@ -19,6 +19,9 @@ pub(crate) const OPENER_OFFER: &str = "sendtxrcncl 2 0000000000000001";
 
 pub(crate) const ACCEPTER_OFFER: &str = "sendtxrcncl 2 0000000000000002";
 
+/// What a peer says first.
+pub(crate) const GREETING: &[&str] = &[VERSION, WTXIDRELAY, OFFER, VERACK];
+
 /// The `version` of an old peer, and of one that asks for no transactions.
 pub(crate) const OLD_VERSION: &str =
     "version 70015 0 0 0000000000000000000000000000000000000000000000000000 0000000000000000000000000000000000000000000000000000 0 2f65726c61793a312f 0 0";
