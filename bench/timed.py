@@ -30,17 +30,18 @@ def stood_on(uses):
     return {crate: line for crate, line in lines.items() if crate in wanted}
 
 
-def lay_out(folder, program, uses):
-    """Copies of the crates that the program needs, and beside them the program as a crate that stands on `uses`."""
-    lines = stood_on(uses)
+def lay_out(folder, programs):
+    """Copies of the crates that the programs need, and beside them each program as a crate. By its name it has its text and the crates that it uses."""
+    lines = stood_on([crate for _, uses in programs.values() for crate in uses])
     for crate in lines:
         shutil.copytree(os.path.join(TOP, "crates", crate), os.path.join(folder, "crates", crate),
                         ignore=shutil.ignore_patterns("out"))
     with open(os.path.join(folder, "crates.txt"), "w") as file:
-        file.writelines(list(lines.values()) + ["timed: " + " ".join(uses) + "\n"])
-    os.makedirs(os.path.join(folder, "crates/timed/src"))
-    with open(os.path.join(folder, "crates/timed/src/main.rt"), "w") as file:
-        file.write(program)
+        file.writelines(list(lines.values()) + [f"{name}: {' '.join(uses)}\n" for name, (_, uses) in programs.items()])
+    for name, (program, _) in programs.items():
+        os.makedirs(os.path.join(folder, "crates", name, "src"))
+        with open(os.path.join(folder, "crates", name, "src/main.rt"), "w") as file:
+            file.write(program)
 
 
 def lines_of(program, uses, keep, runs=1):
@@ -48,7 +49,7 @@ def lines_of(program, uses, keep, runs=1):
     folder = tempfile.mkdtemp(prefix="erlay-bench-")
     crate = os.path.join(folder, "crates/timed")
     try:
-        lay_out(folder, program, uses)
+        lay_out(folder, {"timed": (program, uses)})
         lines = []
         for command in [["rt", "run"]] + [["out/timed"]] * (runs - 1):
             ran = subprocess.run(command, cwd=crate, stdin=subprocess.DEVNULL,

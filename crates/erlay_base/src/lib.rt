@@ -3,8 +3,6 @@
 
 mod calls;
 mod dir_shelf;
-#[cfg(test)]
-mod link_tests;
 mod loading;
 mod mem_shelf;
 mod mem_sink;
@@ -16,8 +14,6 @@ mod sink;
 mod source;
 mod std_streams;
 mod tcp_wire;
-#[cfg(test)]
-mod tests;
 mod wire;
 mod writing;
 

@@ -1,7 +1,4 @@
-pub mod Answered
-pub mod Differences
-pub mod Endings
-pub mod Examples
-pub mod Sets
-pub mod Spelled
+pub mod Reports
+pub mod Stages
+pub mod Forms
 pub mod Texts

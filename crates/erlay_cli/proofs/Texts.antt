@@ -4,8 +4,13 @@ use Rattle.std.specs.Prelude.{codes}
 use Rattle.std.specs.Fmt.{digits}
 use Rattle.line_rules.specs.Lines.{line}
 use Rattle.sketch_text_rules.specs.Faults.{too_long_text}
-use Rattle.sketch_text_rules.specs.Limits.{input_limit}
+use Rattle.pool_rules.specs.declared.limits.TheConstants.{POOL_FILE_LIMIT}
+use Rattle.session_rules.specs.declared.limits.TheConstants.{SESSION_LIMIT}
 
-pub too_long_line : line (too_long_text input_limit) ≡ line (codes "too long 67108864")
+pub long_pool_line : line (too_long_text POOL_FILE_LIMIT) ≡ line (codes "too long 272000000")
 unfolding digits
-too_long_line = refl
+long_pool_line = refl
+
+pub long_session_line : line (too_long_text SESSION_LIMIT) ≡ line (codes "too long 1073741824")
+unfolding digits
+long_session_line = refl

@@ -1,6 +1,6 @@
-pub mod Outside
-pub mod Answers
-pub mod Ends
-pub mod Codes
-pub mod Stops
-pub mod SketchLines
+pub mod Exchanges
+pub mod Sights
+pub mod Courses
+pub mod Halts
+pub mod Links
+pub mod Runs

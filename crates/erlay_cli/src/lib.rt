@@ -1,22 +1,16 @@
-//! The program's top call: words, input, answer, output.
+//! The program's top call: words, chance, input, output, wire and shelf.
 #![tactic(auto)]
 
-mod decode;
-mod faults;
-mod ids;
-mod laws;
-mod make;
-mod merge;
-mod pack;
+mod chance;
+mod course;
+mod exchange;
+mod link;
 mod program;
 mod report;
-mod show;
-mod sim;
-mod sketch_lines;
-mod status;
 mod top;
+mod words;
 
-pub use laws::differences_are_decoded;
+pub use chance::Chance;
 pub use program::exit_code;
-pub use status::Status;
+pub use text_commands::{Status, stopped};
 pub use top::run;

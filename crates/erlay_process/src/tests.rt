@@ -1,9 +1,9 @@
 //! The program from bytes to bytes, over fakes of its input and its output.
 
-use erlay_base::{MemSink, MemSource};
-use erlay_cli::exit_code;
+use erlay_base::{MemShelf, MemSink, MemSource, MemWire};
+use erlay_cli::{Chance, exit_code};
 use std::alloc::{AllocError, Global};
-use std::io::{Error, ErrorKind};
+use std::io::{self, Error, ErrorKind};
 use std::process::Abort;
 use std::test::Fail;
 
@@ -35,6 +35,25 @@ fn arguments_of(alloc: Global, words: &str) -> Result<Vec<String>, AllocError> {
     Ok(arguments)
 }
 
+/// The exit code of the program, over a wire with no peer and a shelf with no contents.
+fn code_of(
+    alloc: Global,
+    arguments: io::Result<Vec<String>>,
+    input: &mut MemSource,
+    output: &mut MemSink,
+) -> u8 {
+    let chance = Chance {
+        salt: 1,
+        nonce: 0,
+        time: 0,
+    };
+    let mut wire = MemWire::new(alloc, Vec::new(alloc), 1, Vec::new(alloc));
+    let mut shelf = MemShelf::new(alloc, Vec::new(alloc), Vec::new(alloc));
+    exit_code(
+        alloc, arguments, chance, input, output, &mut wire, &mut shelf,
+    )
+}
+
 /// The exit code of the program for these words and this input, and the bytes that it wrote.
 pub(crate) fn outcome(
     alloc: Global,
@@ -48,7 +67,7 @@ pub(crate) fn outcome(
     let mut input = MemSource::new(bytes.to_vec(alloc)?, cut, failing_reads);
     let mut output = MemSink::new(alloc, cut, failing_writes);
     let arguments = Ok(arguments_of(alloc, words)?);
-    let code = exit_code(alloc, arguments, &mut input, &mut output);
+    let code = code_of(alloc, arguments, &mut input, &mut output);
     Ok((code, output.written().to_vec(alloc)?))
 }
 
@@ -650,6 +669,14 @@ const FORMLESS: &[&str] = &[
     "ids 0000000000000001 +000000000000002",
     "ids 0000000000000001 0000000000000002 0000000000000003",
     "Make 3",
+    "sync",
+    "sync a b",
+    "sync a b c d",
+    "serve",
+    "serve a b",
+    "serve a b c d",
+    "syncs a b c",
+    "Serve a b c",
     "sim 1",
     "sim sim",
     "simulate",
@@ -685,7 +712,7 @@ fn words_without_form_read_nothing(rt: HostRuntime) -> Result<(), Fail> {
         let mut input = MemSource::new(Vec::new(alloc), 1, calls_of(alloc, 1)?);
         let mut output = MemSink::new(alloc, 1, Vec::new(alloc));
         let arguments = Err(Error::from(kind));
-        let ended = exit_code(alloc, arguments, &mut input, &mut output);
+        let ended = code_of(alloc, arguments, &mut input, &mut output);
         assert_eq!(rt; ended, code);
         assert_eq!(rt; output.written(), text.as_bytes());
     }

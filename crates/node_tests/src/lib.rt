@@ -1,4 +1,4 @@
-//! Tests of nodes at what a peer sends, and of two nodes at scripts. They stand here so that the crates below are proved once.
+//! Tests of nodes at what a peer sends. They stand here so that the crates below are proved once.
 #![tactic(auto)]
 
 #[cfg(test)]
@@ -9,7 +9,3 @@ mod fullness;
 mod lines;
 #[cfg(test)]
 mod nodes;
-#[cfg(test)]
-mod pairs;
-#[cfg(test)]
-mod scripts;

@@ -4,7 +4,13 @@
 #[cfg(test)]
 mod accepter;
 #[cfg(test)]
+mod differences;
+#[cfg(test)]
+mod made;
+#[cfg(test)]
 mod opener;
+#[cfg(test)]
+mod random;
 #[cfg(test)]
 mod rounds;
 #[cfg(test)]

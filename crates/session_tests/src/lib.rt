@@ -1,5 +1,9 @@
-//! Tests of sessions over wires in memory.
+//! Tests of sessions over wires in memory, and of the commands that run them.
 #![tactic(auto)]
 
+#[cfg(test)]
+mod exchanges;
+#[cfg(test)]
+mod limits;
 #[cfg(test)]
 mod tests;

@@ -31,13 +31,13 @@ fn node_of(rt: &impl Abort, alloc: Global, role: Role, salt: u64, tx: &[u8]) -> 
         salt,
         nonce: 0,
         time: 0,
-        top: 1,
+        top: 2,
     };
     Node::new(alloc, config, pool).expect(rt, "memory")
 }
 
 /// The opener of the tests, and its peer.
-fn node_in(rt: &impl Abort, alloc: Global, role: Role) -> Node
+pub(crate) fn node_in(rt: &impl Abort, alloc: Global, role: Role) -> Node
     ensures { IsNew result }
 {
     match role {
@@ -56,7 +56,7 @@ fn pass(rt: &impl Abort, sender: &mut Node, reader: &mut Node, sent: &mut Vec<u8
 }
 
 /// What both nodes give to each other in a round: the opener, and the accepter.
-fn given(rt: &impl Abort, alloc: Global) -> (Vec<u8>, Vec<u8>) {
+pub(crate) fn given(rt: &impl Abort, alloc: Global) -> (Vec<u8>, Vec<u8>) {
     let mut opener = node_in(rt, alloc, Role::Opener);
     let mut accepter = node_in(rt, alloc, Role::Accepter);
     let mut by_opener = Vec::new(alloc);

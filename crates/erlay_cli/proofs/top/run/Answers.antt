@@ -1,56 +1,24 @@
-use Rattle.std.proofs.Common.{map}
-use Rattle.std.specs.String.{string_bytes}
-use Rattle.erlay_cli.specs.Outside.{observation_of}
-use Rattle.erlay_cli.specs.Ends.{IsAnswer, IsAnswerTo}
-use Rattle.erlay_cli.proofs.Endings.{answer_told, ends_as_answered, finished, no_read_failed, no_write_fault, read_cause}
+use Rattle.std.proofs.Common.{sym, subst}
+use Rattle.text_commands.specs.Outside.{observation_of}
+use Rattle.erlay_cli.specs.Exchanges.{Exchange}
+use Rattle.erlay_cli.specs.Runs.{IsExchangeEnding}
+use Rattle.erlay_cli.specs.Sights.{shelf_sight, wire_sight}
+use Rattle.erlay_cli.proofs.Forms.{one_exchange}
+use Rattle.erlay_cli.proofs.Reports.{IsCut, ended_cut, ended_output, ended_sound}
 use Rattle.erlay_cli.proofs.top.run.Goals as goal
 
-pub returns-in-Ok-clause-ends : goal.returns-in-Ok-clause-ends
-returns-in-Ok-clause-ends g c =
-    let Answer = IsAnswer (map string_bytes c.args.words.now) (observation_of g.I.Source.left g.I.Source.faults c.args.input.now) (observation_of g.I.Source.left g.I.Source.faults c.answer.new.input) in
-    finished Answer (observation_of g.O.Sink.written g.O.Sink.faults c.args.output.now) (observation_of g.O.Sink.written g.O.Sink.faults c.finish.new.output)
-    c.in-Ok.report.status c.as_slice.result.now c.finish.result (λ none. none) (rw c.as_slice.ensures.value c.in-Ok.ensures.ok) c.finish.ensures.finishes
+pub returns-in-Some-clause-write_fault : goal.returns-in-Some-clause-write_fault
+returns-in-Some-clause-write_fault g c fault = (ended_output _ _ _ _ _ _ _ _ _ c.exchange_status.ensures).fault fault
 
-pub returns-in-Ok-clause-told : goal.returns-in-Ok-clause-told
-returns-in-Ok-clause-told g c command text form told =
-    let answer = answer_told (map string_bytes c.args.words.now) (observation_of g.I.Source.left g.I.Source.faults c.args.input.now) (observation_of g.I.Source.left g.I.Source.faults c.answer.new.input) command text form told
-    c.in-Ok.report.status c.as_slice.result.now (rw c.as_slice.ensures.value c.in-Ok.ensures.ok) in
-    finished (IsAnswerTo command text) (observation_of g.O.Sink.written g.O.Sink.faults c.args.output.now) (observation_of g.O.Sink.written g.O.Sink.faults c.finish.new.output)
-    c.in-Ok.report.status c.as_slice.result.now c.finish.result (no_write_fault command text c.as_slice.result.now) answer c.finish.ensures.finishes
+pub returns-in-Some-clause-no_write_fault : goal.returns-in-Some-clause-no_write_fault
+returns-in-Some-clause-no_write_fault g c other = (ended_output _ _ _ _ _ _ _ _ _ c.exchange_status.ensures).no_fault other
 
-pub returns-in-Err-clause-ends : goal.returns-in-Err-clause-ends
-returns-in-Err-clause-ends g c =
-    let Answer = IsAnswer (map string_bytes c.args.words.now) (observation_of g.I.Source.left g.I.Source.faults c.args.input.now) (observation_of g.I.Source.left g.I.Source.faults c.answer.new.input) in
-    finished Answer (observation_of g.O.Sink.written g.O.Sink.faults c.args.output.now) (observation_of g.O.Sink.written g.O.Sink.faults c.finish-in-Err.new.output)
-    c.status.result c.text.result.now c.finish-in-Err.result (λ none. none) (rw (c.status.ensures, c.text.ensures) c.in-Err.ensures.err) c.finish-in-Err.ensures.finishes
+pub returns-in-Some-clause-truncated : goal.returns-in-Some-clause-truncated
+returns-in-Some-clause-truncated g c p cut = ended_cut _ _ _ _ _ _ _ _ _ c.exchange_status.ensures (λ fault. cc (cut, fault)) (subst IsCut (sym cut) tt)
 
-pub returns-in-Err-clause-told : goal.returns-in-Err-clause-told
-returns-in-Err-clause-told g c command text form told =
-    let answer = answer_told (map string_bytes c.args.words.now) (observation_of g.I.Source.left g.I.Source.faults c.args.input.now) (observation_of g.I.Source.left g.I.Source.faults c.answer.new.input) command text form told
-    c.status.result c.text.result.now (rw (c.status.ensures, c.text.ensures) c.in-Err.ensures.err) in
-    finished (IsAnswerTo command text) (observation_of g.O.Sink.written g.O.Sink.faults c.args.output.now) (observation_of g.O.Sink.written g.O.Sink.faults c.finish-in-Err.new.output)
-    c.status.result c.text.result.now c.finish-in-Err.result (no_write_fault command text c.text.result.now) answer c.finish-in-Err.ensures.finishes
-
-pub returns-in-Ok-clause-complete : goal.returns-in-Ok-clause-complete
-returns-in-Ok-clause-complete g c command text form told sound no_read no_write =
-    let cause = read_cause (map string_bytes c.args.words.now) (observation_of g.I.Source.left g.I.Source.faults c.args.input.now) (observation_of g.I.Source.left g.I.Source.faults c.answer.new.input)
-    (observation_of g.O.Sink.written g.O.Sink.faults c.args.output.now) (observation_of g.O.Sink.written g.O.Sink.faults c.finish.new.output) c.finish.result (returns-in-Ok-clause-ends g c) in
-    ends_as_answered command text (observation_of g.O.Sink.written g.O.Sink.faults c.args.output.now) (observation_of g.O.Sink.written g.O.Sink.faults c.finish.new.output) c.finish.result
-    (returns-in-Ok-clause-told g c command text form told) (λ failed. no_read (cause failed)) no_write
-
-pub returns-in-Err-clause-complete : goal.returns-in-Err-clause-complete
-returns-in-Err-clause-complete g c command text form told sound no_read no_write =
-    let cause = read_cause (map string_bytes c.args.words.now) (observation_of g.I.Source.left g.I.Source.faults c.args.input.now) (observation_of g.I.Source.left g.I.Source.faults c.answer.new.input)
-    (observation_of g.O.Sink.written g.O.Sink.faults c.args.output.now) (observation_of g.O.Sink.written g.O.Sink.faults c.finish-in-Err.new.output) c.finish-in-Err.result (returns-in-Err-clause-ends g c) in
-    ends_as_answered command text (observation_of g.O.Sink.written g.O.Sink.faults c.args.output.now) (observation_of g.O.Sink.written g.O.Sink.faults c.finish-in-Err.new.output) c.finish-in-Err.result
-    (returns-in-Err-clause-told g c command text form told) (λ failed. no_read (cause failed)) no_write
-
-pub returns-in-Ok-clause-no_read_fault : goal.returns-in-Ok-clause-no_read_fault
-returns-in-Ok-clause-no_read_fault g c no_read no_write =
-    no_read_failed (map string_bytes c.args.words.now) (observation_of g.I.Source.left g.I.Source.faults c.args.input.now) (observation_of g.I.Source.left g.I.Source.faults c.answer.new.input)
-    (observation_of g.O.Sink.written g.O.Sink.faults c.args.output.now) (observation_of g.O.Sink.written g.O.Sink.faults c.finish.new.output) c.finish.result (returns-in-Ok-clause-ends g c) no_read no_write
-
-pub returns-in-Err-clause-no_read_fault : goal.returns-in-Err-clause-no_read_fault
-returns-in-Err-clause-no_read_fault g c no_read no_write =
-    no_read_failed (map string_bytes c.args.words.now) (observation_of g.I.Source.left g.I.Source.faults c.args.input.now) (observation_of g.I.Source.left g.I.Source.faults c.answer.new.input)
-    (observation_of g.O.Sink.written g.O.Sink.faults c.args.output.now) (observation_of g.O.Sink.written g.O.Sink.faults c.finish-in-Err.new.output) c.finish-in-Err.result (returns-in-Err-clause-ends g c) no_read no_write
+pub returns-in-Some-clause-complete_exchange : goal.returns-in-Some-clause-complete_exchange
+returns-in-Some-clause-complete_exchange g c x asks sound no_write no_link no_shelf =
+    let ended = subst (λ (y : Exchange). IsExchangeEnding y c.args.chance (wire_sight g.W.Wire.link g.W.Wire.has_ended g.W.Wire.faults c.args.wire.now) (wire_sight g.W.Wire.link g.W.Wire.has_ended g.W.Wire.faults c.exchange_status.new.wire) (shelf_sight g.S.Shelf.told g.S.Shelf.faults c.args.shelf.now) (shelf_sight g.S.Shelf.told g.S.Shelf.faults c.exchange_status.new.shelf)
+    (observation_of g.O.Sink.written g.O.Sink.faults c.args.output.now) (observation_of g.O.Sink.written g.O.Sink.faults c.exchange_status.new.output) c.exchange_status.result) (one_exchange _ _ _ c.in-Some.ensures.some asks) c.exchange_status.ensures in
+    ended_sound x c.args.chance (wire_sight g.W.Wire.link g.W.Wire.has_ended g.W.Wire.faults c.args.wire.now) (wire_sight g.W.Wire.link g.W.Wire.has_ended g.W.Wire.faults c.exchange_status.new.wire) (shelf_sight g.S.Shelf.told g.S.Shelf.faults c.args.shelf.now) (shelf_sight g.S.Shelf.told g.S.Shelf.faults c.exchange_status.new.shelf) (observation_of g.O.Sink.written g.O.Sink.faults c.args.output.now) (observation_of g.O.Sink.written g.O.Sink.faults c.exchange_status.new.output)
+    c.exchange_status.result ended (λ fault. no_write ((ended_output _ _ _ _ _ _ _ _ _ ended).fault fault)) sound no_link no_shelf

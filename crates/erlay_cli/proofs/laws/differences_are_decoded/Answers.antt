@@ -1,9 +1,0 @@
--- Each clause is a lemma.
-use Rattle.erlay_cli.proofs.Differences.{difference_decoded, difference_found}
-use Rattle.erlay_cli.proofs.laws.differences_are_decoded.Goals as goal
-
-pub returns-clause-sum : goal.returns-clause-sum
-returns-clause-sum c = difference_decoded
-
-pub returns-clause-texts : goal.returns-clause-texts
-returns-clause-texts c = difference_found

@@ -1,0 +1,2 @@
+pub mod PoolFiles
+pub mod Runs
