@@ -1,7 +1,7 @@
 //! What a peer sends, in lines.
 
 use std::alloc::Global;
-use std::test::Fail;
+use std::process::Abort;
 use stream_text::packed_frames;
 
 /// The messages of a handshake. Both sides have this `version`, and each has a salt of its own.
@@ -30,17 +30,17 @@ pub(crate) const NO_RELAY: &str =
     "version 70016 0 0 0000000000000000000000000000000000000000000000000000 0000000000000000000000000000000000000000000000000000 0 2f65726c61793a312f 0 0";
 
 /// Lines, each with LF.
-pub(crate) fn text_of(alloc: Global, lines: &[&str]) -> Result<Vec<u8>, Fail> {
+pub(crate) fn text_of(rt: &impl Abort, alloc: Global, lines: &[&str]) -> Vec<u8> {
     let mut text = Vec::new(alloc);
     for line in lines {
-        text.extend_from_slice(line.as_bytes())?;
-        text.push(b'\n')?;
+        text.extend_from_slice(line.as_bytes()).expect(rt, "memory");
+        text.push(b'\n').expect(rt, "memory");
     }
-    Ok(text)
+    text
 }
 
 /// The frames of the messages that lines show.
-pub(crate) fn frames_of(alloc: Global, lines: &[&str]) -> Result<Vec<u8>, Fail> {
-    let text = text_of(alloc, lines)?;
-    Ok(packed_frames(alloc, text.as_slice())?)
+pub(crate) fn frames_of(rt: &impl Abort, alloc: Global, lines: &[&str]) -> Vec<u8> {
+    let text = text_of(rt, alloc, lines);
+    packed_frames(alloc, text.as_slice()).expect(rt, "lines of messages")
 }
