@@ -64,7 +64,7 @@ pub fn run<I: Source, O: Sink, W: Wire, S: Shelf>(
     ensures formless { AreFormless (map string_bytes words.now) → (result ≡ Status.Usage) ⊎ (result ≡ Status.WriteFault) }
     ensures untouched { AreFormless (map string_bytes words.now) → input.new ≡ input.old }
 
-    // A fault of the outside comes exactly where its count rose, and no count falls. A failed write hides another fault.
+    // A fault of the outside comes exactly where its count rose. A failed write hides another fault.
     ensures read_fault { result ≡ Status.ReadFault → HasRisen (I.faults input.old) (I.faults input.new) }
     ensures no_read_fault { result ≢ Status.ReadFault → result ≢ Status.WriteFault → I.faults input.new ≡ I.faults input.old }
     ensures write_fault { result ≡ Status.WriteFault → HasRisen (O.faults output.old) (O.faults output.new) }
