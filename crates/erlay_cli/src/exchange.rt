@@ -1,6 +1,6 @@
 //! An exchange of transactions with another node.
 
-ghost use Rattle.std.specs.Prelude.{◌≡◌, false, true};
+ghost use Rattle.std.specs.Prelude.{◌≡◌, ◌≤◌, false, true};
 ghost use Rattle.erlay_base.specs.WireCalls.{IsUnused};
 ghost use Rattle.text_commands.specs.Outside.{observation_of};
 ghost use Rattle.erlay_cli.specs.Courses.{HasCounts, HasCourse, HasLoadedCourse, HasSessionCourse, IsAnnounced, status_of};
@@ -31,10 +31,11 @@ pub(crate) fn exchange_status<O: Sink, W: Wire, S: Shelf>(
     shelf: &mut S,
 ) -> Status
     requires { W.has_ended wire.old ≡ false }
-    ensures { IsExchangeEnding asked.now chance
+    ensures ending { IsExchangeEnding asked.now chance
         (wire_sight W.link W.has_ended W.faults wire.old) (wire_sight W.link W.has_ended W.faults wire.new)
         (shelf_sight S.told S.faults shelf.old) (shelf_sight S.told S.faults shelf.new)
         (observation_of O.written O.faults output.old) (observation_of O.written O.faults output.new) result }
+    ensures later { (O.faults output.old ≤ O.faults output.new) × (W.faults wire.old ≤ W.faults wire.new) × (S.faults shelf.old ≤ S.faults shelf.new) }
 {
     let course = course_of(alloc, asked, chance, output, wire, shelf);
     match report_of(alloc, course) {
@@ -60,6 +61,7 @@ fn course_of<O: Sink, W: Wire, S: Shelf>(
         (wire_sight W.link W.has_ended W.faults wire.old) (wire_sight W.link W.has_ended W.faults wire.new)
         (shelf_sight S.told S.faults shelf.old) (shelf_sight S.told S.faults shelf.new) }
     ensures announced { IsAnnounced asked.now.role result (observation_of O.written O.faults output.old) (observation_of O.written O.faults output.new) }
+    ensures later { (O.faults output.old ≤ O.faults output.new) × (W.faults wire.old ≤ W.faults wire.new) × (S.faults shelf.old ≤ S.faults shelf.new) }
 {
     match load_pool(alloc, shelf, asked.pool) {
         Ok(pool) => linked_course(alloc, asked, chance, pool, output, wire, shelf),
@@ -85,6 +87,7 @@ fn linked_course<O: Sink, W: Wire, S: Shelf>(
         (wire_sight W.link W.has_ended W.faults wire.old) (wire_sight W.link W.has_ended W.faults wire.new)
         (shelf_sight S.told S.faults shelf.old) (shelf_sight S.told S.faults shelf.new) }
     ensures announced { IsAnnounced asked.now.role result (observation_of O.written O.faults output.old) (observation_of O.written O.faults output.new) }
+    ensures later { (O.faults output.old ≤ O.faults output.new) × (W.faults wire.old ≤ W.faults wire.new) × (S.faults shelf.old ≤ S.faults shelf.new) }
 {
     match link(asked.role, asked.address, output, wire) {
         LinkEnd::Linked => session_course(alloc, asked, chance, pool, wire, shelf),
@@ -111,6 +114,7 @@ fn session_course<W: Wire, S: Shelf>(
     ensures counts { HasCounts (status_of result)
         (wire_sight W.link W.has_ended W.faults wire.old) (wire_sight W.link W.has_ended W.faults wire.new)
         (shelf_sight S.told S.faults shelf.old) (shelf_sight S.told S.faults shelf.new) }
+    ensures later { (W.faults wire.old ≤ W.faults wire.new) × (S.faults shelf.old ≤ S.faults shelf.new) }
 {
     let config = config_of(asked.role, chance);
     match run_session(

@@ -1,6 +1,6 @@
 //! The link of an exchange.
 
-ghost use Rattle.std.specs.Prelude.{◌≡◌, false, true};
+ghost use Rattle.std.specs.Prelude.{◌≡◌, ◌≤◌, false, true};
 ghost use Rattle.erlay_base.specs.WireCalls.{IsUnused};
 ghost use Rattle.text_commands.specs.Outside.{observation_of};
 ghost use Rattle.erlay_cli.specs.Links.{IsLinkEnd};
@@ -35,6 +35,7 @@ pub(crate) fn link<W: Wire, O: Sink>(
     ensures linked { result ≡ LinkEnd.Linked → W.is_linked wire.new ≡ true }
     ensures unused { result ≡ LinkEnd.Linked → IsUnused (W.link wire.new) }
     ensures input { W.has_ended wire.new ≡ false }
+    ensures later { (W.faults wire.old ≤ W.faults wire.new) × (O.faults output.old ≤ O.faults output.new) }
 {
     match role {
         Role::Opener => match wire.connect(address) {
@@ -53,6 +54,7 @@ fn accept<W: Wire, O: Sink>(address: &str, output: &mut O, wire: &mut W) -> Link
     ensures linked { result ≡ LinkEnd.Linked → W.is_linked wire.new ≡ true }
     ensures unused { result ≡ LinkEnd.Linked → IsUnused (W.link wire.new) }
     ensures input { W.has_ended wire.new ≡ false }
+    ensures later { (W.faults wire.old ≤ W.faults wire.new) × (O.faults output.old ≤ O.faults output.new) }
 {
     if wire.listen(address).is_err() {
         return LinkEnd::Unlinked;

@@ -64,7 +64,7 @@ pub fn run<I: Source, O: Sink, W: Wire, S: Shelf>(
     ensures formless { AreFormless (map string_bytes words.now) → (result ≡ Status.Usage) ⊎ (result ≡ Status.WriteFault) }
     ensures untouched { AreFormless (map string_bytes words.now) → input.new ≡ input.old }
 
-    // A fault of the outside comes exactly where its count rose. A failed write hides another fault.
+    // A fault of the outside comes exactly where its count rose, and no count falls. A failed write hides another fault.
     ensures read_fault { result ≡ Status.ReadFault → HasRisen (I.faults input.old) (I.faults input.new) }
     ensures no_read_fault { result ≢ Status.ReadFault → result ≢ Status.WriteFault → I.faults input.new ≡ I.faults input.old }
     ensures write_fault { result ≡ Status.WriteFault → HasRisen (O.faults output.old) (O.faults output.new) }
@@ -73,6 +73,7 @@ pub fn run<I: Source, O: Sink, W: Wire, S: Shelf>(
     ensures no_link_fault { result ≢ Status.LinkFault → result ≢ Status.WriteFault → W.faults wire.new ≡ W.faults wire.old }
     ensures shelf_fault { result ≡ Status.ShelfFault → HasRisen (S.faults shelf.old) (S.faults shelf.new) }
     ensures no_shelf_fault { result ≢ Status.ShelfFault → result ≢ Status.WriteFault → S.faults shelf.new ≡ S.faults shelf.old }
+    ensures later { (I.faults input.old ≤ I.faults input.new) × (O.faults output.old ≤ O.faults output.new) × (W.faults wire.old ≤ W.faults wire.new) × (S.faults shelf.old ≤ S.faults shelf.new) }
 
     // A session was cut short exactly where the wire's input has ended.
     ensures truncated { (p : Phase) → result ≡ Status.Truncated p → W.has_ended wire.new ≡ true }
