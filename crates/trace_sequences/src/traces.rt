@@ -18,7 +18,7 @@ use poly_ops::Poly;
 use std::alloc::Global;
 
 /// From how many members on the sequences of few traces are made at a time.
-const FEW_PAY_FROM: usize = 1024;
+const FEW_PAY_FROM: usize = 300;
 
 /// How many these are.
 const FEW_TRACES: u32 = 5;
