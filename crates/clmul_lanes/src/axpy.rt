@@ -8,16 +8,17 @@ ghost use Rattle.clmul_lanes.specs.Tables.{AreByteTables};
 use crate::Lane32;
 use crate::lane_multiples::{ByteTables, byte_tables, planes_of_products};
 use crate::planes::{planes_of, words_of};
-use field_core::Field;
+use crate::small_sums::times;
+use field_core::{Field, window_table};
 
-/// By a product for each item. The body is the default's: a trait's default can't call a function that is generic over
-/// the trait.
+/// By a product for each item, with one table of the factor's multiples.
 pub fn axpy_by_products(acc: &mut [Lane32], k: Lane32, x: &[Lane32])
     requires { length acc.old ≡ length x.now }
     ensures { acc.new ≡ with_multiple ops acc.old k x.now }
 {
+    let multiples = window_table(k.get());
     for i in 0..acc.len() {
-        acc[i] = acc[i].add(k.mul(x[i]));
+        acc[i] = acc[i].add(times(x[i], &multiples));
     }
 }
 

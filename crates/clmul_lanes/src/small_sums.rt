@@ -59,7 +59,7 @@ fn add_four(acc: &mut [Lane32], d: Lane32, e: Lane32, f: Lane32, g: Lane32)
 
 /// The product of an element and that of a table.
 #[inline(always)]
-fn times(a: Lane32, table: &WindowTable) -> Lane32
+pub fn times(a: Lane32, table: &WindowTable) -> Lane32
     ensures { (b : Lane32) (bits : ℕ) → bits ≡ bits_of b → IsWindowTable bits table.now → result ≡ ops.times a b }
 {
     Lane32::new(reduce(product_by_windows(table, a.get())))

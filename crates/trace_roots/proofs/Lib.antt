@@ -4,5 +4,6 @@ pub mod Decoded
 mod Found
 mod Halving
 mod Parting
+mod Solving
 mod Stepping
 mod Whole

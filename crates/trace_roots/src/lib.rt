@@ -5,6 +5,7 @@ mod check;
 mod decoding;
 mod half;
 mod members;
+mod pair;
 mod part;
 mod splitting;
 

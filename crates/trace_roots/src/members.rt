@@ -13,6 +13,7 @@ ghost use Rattle.trace_sequences.specs.Rows.{AreTraceSequences};
 ghost use Rattle.trace_roots.specs.Parts.{HasFittingSizes};
 
 use crate::half::half_of;
+use crate::pair::two_members;
 use crate::part::{Part, halves};
 use base_types::OutOfMemory;
 use field_core::Field;
@@ -37,6 +38,13 @@ pub fn find_members<F: Field>(
 {
     if part.locator.coeffs().len() == 2 {
         found.push(part.locator.coeffs()[0])?;
+        return Ok(true);
+    }
+    if part.locator.coeffs().len() == 3 {
+        let Some(pair) = two_members(&part.locator) else {
+            return Ok(false);
+        };
+        found.extend_from_slice(&pair)?;
         return Ok(true);
     }
     if exponent >= F::BITS {

@@ -10,7 +10,7 @@ use std::alloc::Global;
 use std::marker::Model;
 
 /// From how many items on the multiples of a list are worth making for the rows of a set.
-const MULTIPLES_PAY_FROM: usize = 16;
+const MULTIPLES_PAY_FROM: usize = 64;
 
 /// A list that may be kept with the multiples of its items, turned round. A contract sees it as the list.
 #[derive(Drop)]

@@ -17,9 +17,11 @@ use field_core::Field;
 use poly_ops::Poly;
 use std::alloc::Global;
 
-/// How many sequences of traces are made at a time. Each is carried down to the parts as a correlation, which costs less
-/// than further rows for a few of them, and more for many.
-const TRACES_AT_A_TIME: u32 = 5;
+/// From how many members on the sequences of few traces are made at a time.
+const FEW_PAY_FROM: usize = 300;
+
+/// How many these are.
+const FEW_TRACES: u32 = 5;
 
 /// The sequences of the traces of the next exponents, or none where `f` can't be the polynomial of a set: where it is,
 /// `x ^ (2 ^ BITS)` and x have the same values at its roots.
@@ -68,13 +70,26 @@ fn trace_sequences<F: Field>(
     ensures each { (u : F → F) (es : List F) → length es ≡ n → AreRows F.ops u es rows.now
         → IfOk result (λ traces. AreTraceSequences F.ops F.bits_of F.BITS exponent u es traces.items) }
 {
-    let end = F::BITS.min(exponent.saturating_add(TRACES_AT_A_TIME));
+    let end = F::BITS.min(exponent.saturating_add(traces_at_a_time(n)));
     let mut traces = Vec::with_capacity(alloc, (end - exponent) as usize)?;
     for j in exponent..end {
         let trace = trace_sequence(alloc, rows, F::basis(j), n)?;
         traces.push(Sequence::new(trace))?;
     }
     Ok(traces)
+}
+
+/// How many sequences of traces are made at a time for n members. Each is carried down to the parts as a correlation,
+/// which costs less than further rows of each part. So there are as many as mostly tell all members apart; but of many
+/// members only so many as leave small parts, whose rows cost less than such long correlations.
+fn traces_at_a_time(n: usize) -> u32
+    ensures { 0 < result }
+{
+    if n < FEW_PAY_FROM {
+        usize::BITS - n.leading_zeros() + 1
+    } else {
+        FEW_TRACES
+    }
 }
 
 /// The sequence of the traces of the products of `b` with the members.

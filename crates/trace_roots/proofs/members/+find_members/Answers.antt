@@ -30,39 +30,39 @@ returns-then-exponent-BITS g n c = record {
         ∙ end_of_basis g.F.Field.ops g.met.F.Field.ring g.F.Field.bits_of g.F.Field.BITS g.met.F.Field.separates c.args.exponent u es c.args.part.locator c.args.part.traces.items c.requires.fits part
         (omega (arith, c.requires.exponent, c.if-exponent-BITS.true, c.BITS.ensures)) alike)
 
-pub returns-in_default-2 : goal.returns-in_default-2
-returns-in_default-2 g n c = record {
+pub returns-in_default-3 : goal.returns-in_default-3
+returns-in_default-3 g n c = record {
   all = λ u es part alike. let next = unparted u es part alike in c.find_members.ensures.all u es next.0 next.1;
   members = λ u es part alike. let next = unparted u es part alike in c.find_members.ensures.members u es next.0 next.1;
 }
   where
-    unparted : (u : _ → _) (es : List _) → IsPartOf g.F.Field.ops g.met.F.Field.ring g.F.Field.bits_of g.F.Field.BITS g.met.F.Field.numbered c.args.exponent u es c.args.part → IsAlike g.F.Field.ops g.F.Field.bits_of g.F.Field.BITS c.args.exponent es → IsPartOf g.F.Field.ops g.met.F.Field.ring g.F.Field.bits_of g.F.Field.BITS g.met.F.Field.numbered (c.args.exponent + 1) u es c.in-Some.part × IsAlike g.F.Field.ops g.F.Field.bits_of g.F.Field.BITS (c.args.exponent + 1) es
+    unparted : (u : _ → _) (es : List _) → IsPartOf g.F.Field.ops g.met.F.Field.ring g.F.Field.bits_of g.F.Field.BITS g.met.F.Field.numbered c.args.exponent u es c.args.part → IsAlike g.F.Field.ops g.F.Field.bits_of g.F.Field.BITS c.args.exponent es → IsPartOf g.F.Field.ops g.met.F.Field.ring g.F.Field.bits_of g.F.Field.BITS g.met.F.Field.numbered (c.args.exponent + 1) u es c.in-Some-2.part × IsAlike g.F.Field.ops g.F.Field.bits_of g.F.Field.BITS (c.args.exponent + 1) es
     unparted u es part alike = (
-      next_part g.F.Field.ops g.met.F.Field.ring g.F.Field.bits_of g.F.Field.BITS g.met.F.Field.numbered c.args.exponent (omega (arith, c.if-exponent-BITS.false, c.BITS.ensures)) u es c.in-Some.trace c.in-Some.part c.in-Some.is
+      next_part g.F.Field.ops g.met.F.Field.ring g.F.Field.bits_of g.F.Field.BITS g.met.F.Field.numbered c.args.exponent (omega (arith, c.if-exponent-BITS.false, c.BITS.ensures)) u es c.in-Some-2.trace c.in-Some-2.part c.in-Some-2.is
           (c.in_ok-trace.ensures.trace u es part) (c.in_ok-trace.ensures.part u es part) c.in_ok-trace.ensures.size,
-      next_told g.F.Field.ops g.met.F.Field.ring g.F.Field.bits_of g.F.Field.BITS g.met.F.Field.numbered c.args.exponent (omega (arith, c.if-exponent-BITS.false, c.BITS.ensures)) u es c.in-Some.trace c.in-Some.part c.in-Some.is
+      next_told g.F.Field.ops g.met.F.Field.ring g.F.Field.bits_of g.F.Field.BITS g.met.F.Field.numbered c.args.exponent (omega (arith, c.if-exponent-BITS.false, c.BITS.ensures)) u es c.in-Some-2.trace c.in-Some-2.part c.in-Some-2.is
           (c.in_ok-trace.ensures.trace u es part) (c.in_ok-trace.ensures.part u es part) c.in_ok-trace.ensures.size
           c.as_slice.result.now c.as_slice.ensures
-          (λ b bits differ unit size traced. c.in_ok-half.ensures.none c.args.exponent b u es bits differ unit size traced alike c.in_default-2.is),
+          (λ b bits differ unit size traced. c.in_ok-half.ensures.none c.args.exponent b u es bits differ unit size traced alike c.in_default-3.is),
     )
 
-pub returns-in_default-3 : goal.returns-in_default-3
-returns-in_default-3 g n c = record {
+pub returns-in_default-4 : goal.returns-in_default-4
+returns-in_default-4 g n c = record {
   all = λ u es part alike. none u es part alike;
   members = λ u es part alike. never (none u es part alike);
 }
   where
     none : (u : _ → _) (es : List _) → IsPartOf g.F.Field.ops g.met.F.Field.ring g.F.Field.bits_of g.F.Field.BITS g.met.F.Field.numbered c.args.exponent u es c.args.part → IsAlike g.F.Field.ops g.F.Field.bits_of g.F.Field.BITS c.args.exponent es → false ≡ true
     none u es part alike =
-        let half : IsHalf g.F.Field.ops g.F.Field.bits_of g.F.Field.BITS (c.args.exponent + 1) es c.in-Some-2.half =
-        at_some (IsHalf g.F.Field.ops g.F.Field.bits_of g.F.Field.BITS (c.args.exponent + 1) es) c.in-Some-2.is
-        (next_told g.F.Field.ops g.met.F.Field.ring g.F.Field.bits_of g.F.Field.BITS g.met.F.Field.numbered c.args.exponent (omega (arith, c.if-exponent-BITS.false, c.BITS.ensures)) u es c.in-Some.trace c.in-Some.part c.in-Some.is
+        let half : IsHalf g.F.Field.ops g.F.Field.bits_of g.F.Field.BITS (c.args.exponent + 1) es c.in-Some-3.half =
+        at_some (IsHalf g.F.Field.ops g.F.Field.bits_of g.F.Field.BITS (c.args.exponent + 1) es) c.in-Some-3.is
+        (next_told g.F.Field.ops g.met.F.Field.ring g.F.Field.bits_of g.F.Field.BITS g.met.F.Field.numbered c.args.exponent (omega (arith, c.if-exponent-BITS.false, c.BITS.ensures)) u es c.in-Some-2.trace c.in-Some-2.part c.in-Some-2.is
         (c.in_ok-trace.ensures.trace u es part) (c.in_ok-trace.ensures.part u es part) c.in_ok-trace.ensures.size
         c.as_slice.result.now c.as_slice.ensures
         (λ b bits differ unit size traced. c.in_ok-half.ensures.half c.args.exponent b u es bits differ unit size traced alike)) in
-        subst IsSome c.in_default-3.is
+        subst IsSome c.in_default-4.is
         (c.in_ok-first.ensures.found (c.args.exponent + 1) u es
-        (next_part g.F.Field.ops g.met.F.Field.ring g.F.Field.bits_of g.F.Field.BITS g.met.F.Field.numbered c.args.exponent (omega (arith, c.if-exponent-BITS.false, c.BITS.ensures)) u es c.in-Some.trace c.in-Some.part c.in-Some.is
+        (next_part g.F.Field.ops g.met.F.Field.ring g.F.Field.bits_of g.F.Field.BITS g.met.F.Field.numbered c.args.exponent (omega (arith, c.if-exponent-BITS.false, c.BITS.ensures)) u es c.in-Some-2.trace c.in-Some-2.part c.in-Some-2.is
         (c.in_ok-trace.ensures.trace u es part) (c.in_ok-trace.ensures.part u es part) c.in_ok-trace.ensures.size) half)
 
 pub returns-then-not-branch : goal.returns-then-not-branch
@@ -72,17 +72,17 @@ returns-then-not-branch g n c = record {
 }
   where
     halved : (u : _ → _) (es : List _) → IsPartOf g.F.Field.ops g.met.F.Field.ring g.F.Field.bits_of g.F.Field.BITS g.met.F.Field.numbered c.args.exponent u es c.args.part → IsAlike g.F.Field.ops g.F.Field.bits_of g.F.Field.BITS c.args.exponent es
-        → IsSplitOf g.F.Field.ops g.met.F.Field.ring g.F.Field.bits_of g.F.Field.BITS g.met.F.Field.numbered (c.args.exponent + 1) es c.in-Some-3.first c.in-Some-3.second
+        → IsSplitOf g.F.Field.ops g.met.F.Field.ring g.F.Field.bits_of g.F.Field.BITS g.met.F.Field.numbered (c.args.exponent + 1) es c.in-Some-4.first c.in-Some-4.second
     halved u es part alike =
-        let half : IsHalf g.F.Field.ops g.F.Field.bits_of g.F.Field.BITS (c.args.exponent + 1) es c.in-Some-2.half =
-        at_some (IsHalf g.F.Field.ops g.F.Field.bits_of g.F.Field.BITS (c.args.exponent + 1) es) c.in-Some-2.is
-        (next_told g.F.Field.ops g.met.F.Field.ring g.F.Field.bits_of g.F.Field.BITS g.met.F.Field.numbered c.args.exponent (omega (arith, c.if-exponent-BITS.false, c.BITS.ensures)) u es c.in-Some.trace c.in-Some.part c.in-Some.is
+        let half : IsHalf g.F.Field.ops g.F.Field.bits_of g.F.Field.BITS (c.args.exponent + 1) es c.in-Some-3.half =
+        at_some (IsHalf g.F.Field.ops g.F.Field.bits_of g.F.Field.BITS (c.args.exponent + 1) es) c.in-Some-3.is
+        (next_told g.F.Field.ops g.met.F.Field.ring g.F.Field.bits_of g.F.Field.BITS g.met.F.Field.numbered c.args.exponent (omega (arith, c.if-exponent-BITS.false, c.BITS.ensures)) u es c.in-Some-2.trace c.in-Some-2.part c.in-Some-2.is
         (c.in_ok-trace.ensures.trace u es part) (c.in_ok-trace.ensures.part u es part) c.in_ok-trace.ensures.size
         c.as_slice.result.now c.as_slice.ensures
         (λ b bits differ unit size traced. c.in_ok-half.ensures.half c.args.exponent b u es bits differ unit size traced alike)) in
-        at_some (λ p. IsSplitOf g.F.Field.ops g.met.F.Field.ring g.F.Field.bits_of g.F.Field.BITS g.met.F.Field.numbered (c.args.exponent + 1) es p.0 p.1) c.in-Some-3.is
+        at_some (λ p. IsSplitOf g.F.Field.ops g.met.F.Field.ring g.F.Field.bits_of g.F.Field.BITS g.met.F.Field.numbered (c.args.exponent + 1) es p.0 p.1) c.in-Some-4.is
         (c.in_ok-first.ensures.parts (c.args.exponent + 1) u es
-        (next_part g.F.Field.ops g.met.F.Field.ring g.F.Field.bits_of g.F.Field.BITS g.met.F.Field.numbered c.args.exponent (omega (arith, c.if-exponent-BITS.false, c.BITS.ensures)) u es c.in-Some.trace c.in-Some.part c.in-Some.is
+        (next_part g.F.Field.ops g.met.F.Field.ring g.F.Field.bits_of g.F.Field.BITS g.met.F.Field.numbered c.args.exponent (omega (arith, c.if-exponent-BITS.false, c.BITS.ensures)) u es c.in-Some-2.trace c.in-Some-2.part c.in-Some-2.is
         (c.in_ok-trace.ensures.trace u es part) (c.in_ok-trace.ensures.part u es part) c.in_ok-trace.ensures.size) half)
 
     none : (u : _ → _) (es : List _) → IsPartOf g.F.Field.ops g.met.F.Field.ring g.F.Field.bits_of g.F.Field.BITS g.met.F.Field.numbered c.args.exponent u es c.args.part → IsAlike g.F.Field.ops g.F.Field.bits_of g.F.Field.BITS c.args.exponent es → false ≡ true
@@ -104,15 +104,15 @@ returns g n c = record {
 }
   where
     halved : (u : _ → _) (es : List _) → IsPartOf g.F.Field.ops g.met.F.Field.ring g.F.Field.bits_of g.F.Field.BITS g.met.F.Field.numbered c.args.exponent u es c.args.part → IsAlike g.F.Field.ops g.F.Field.bits_of g.F.Field.BITS c.args.exponent es
-        → IsSplitOf g.F.Field.ops g.met.F.Field.ring g.F.Field.bits_of g.F.Field.BITS g.met.F.Field.numbered (c.args.exponent + 1) es c.in-Some-3.first c.in-Some-3.second
+        → IsSplitOf g.F.Field.ops g.met.F.Field.ring g.F.Field.bits_of g.F.Field.BITS g.met.F.Field.numbered (c.args.exponent + 1) es c.in-Some-4.first c.in-Some-4.second
     halved u es part alike =
-        let half : IsHalf g.F.Field.ops g.F.Field.bits_of g.F.Field.BITS (c.args.exponent + 1) es c.in-Some-2.half =
-        at_some (IsHalf g.F.Field.ops g.F.Field.bits_of g.F.Field.BITS (c.args.exponent + 1) es) c.in-Some-2.is
-        (next_told g.F.Field.ops g.met.F.Field.ring g.F.Field.bits_of g.F.Field.BITS g.met.F.Field.numbered c.args.exponent (omega (arith, c.if-exponent-BITS.false, c.BITS.ensures)) u es c.in-Some.trace c.in-Some.part c.in-Some.is
+        let half : IsHalf g.F.Field.ops g.F.Field.bits_of g.F.Field.BITS (c.args.exponent + 1) es c.in-Some-3.half =
+        at_some (IsHalf g.F.Field.ops g.F.Field.bits_of g.F.Field.BITS (c.args.exponent + 1) es) c.in-Some-3.is
+        (next_told g.F.Field.ops g.met.F.Field.ring g.F.Field.bits_of g.F.Field.BITS g.met.F.Field.numbered c.args.exponent (omega (arith, c.if-exponent-BITS.false, c.BITS.ensures)) u es c.in-Some-2.trace c.in-Some-2.part c.in-Some-2.is
         (c.in_ok-trace.ensures.trace u es part) (c.in_ok-trace.ensures.part u es part) c.in_ok-trace.ensures.size
         c.as_slice.result.now c.as_slice.ensures
         (λ b bits differ unit size traced. c.in_ok-half.ensures.half c.args.exponent b u es bits differ unit size traced alike)) in
-        at_some (λ p. IsSplitOf g.F.Field.ops g.met.F.Field.ring g.F.Field.bits_of g.F.Field.BITS g.met.F.Field.numbered (c.args.exponent + 1) es p.0 p.1) c.in-Some-3.is
+        at_some (λ p. IsSplitOf g.F.Field.ops g.met.F.Field.ring g.F.Field.bits_of g.F.Field.BITS g.met.F.Field.numbered (c.args.exponent + 1) es p.0 p.1) c.in-Some-4.is
         (c.in_ok-first.ensures.parts (c.args.exponent + 1) u es
-        (next_part g.F.Field.ops g.met.F.Field.ring g.F.Field.bits_of g.F.Field.BITS g.met.F.Field.numbered c.args.exponent (omega (arith, c.if-exponent-BITS.false, c.BITS.ensures)) u es c.in-Some.trace c.in-Some.part c.in-Some.is
+        (next_part g.F.Field.ops g.met.F.Field.ring g.F.Field.bits_of g.F.Field.BITS g.met.F.Field.numbered c.args.exponent (omega (arith, c.if-exponent-BITS.false, c.BITS.ensures)) u es c.in-Some-2.trace c.in-Some-2.part c.in-Some-2.is
         (c.in_ok-trace.ensures.trace u es part) (c.in_ok-trace.ensures.part u es part) c.in_ok-trace.ensures.size) half)
