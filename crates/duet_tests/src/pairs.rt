@@ -1,7 +1,7 @@
 //! Pairs of new nodes of the main network, and the events at them.
 
-ghost use Rattle.std.specs.Prelude.{◌≡◌, [], IsTrue};
-ghost use Rattle.id_rules.specs.Bytes.{is_tx};
+ghost use Rattle.std.specs.Prelude.{◌≡◌, [], length, IsTrue};
+ghost use Rattle.id_rules.specs.Bytes.{are_bytes, is_tx_length};
 ghost use Rattle.node_rules.specs.Invariant.{IsConfig};
 ghost use Rattle.pair_rules.specs.World.{is_event};
 ghost use Rattle.protocol_text_rules.specs.declared.limits.TheConstants.{MAIN_MAGIC};
@@ -61,13 +61,15 @@ pub(crate) fn pair_of(rt: &impl Abort, alloc: Global, tops: Tops) -> Duet {
 
 /// A copy of bytes that may be a transaction.
 fn tx_of(rt: &impl Abort, alloc: Global, tx: &[u8]) -> Bytes
-    ensures { IsTrue (is_tx result) }
+    ensures sized { IsTrue (is_tx_length (length result)) }
+    ensures bytes { IsTrue (are_bytes result) }
 {
     assert!(rt; !tx.is_empty() && tx.len() <= TX_LIMIT);
     Bytes::from_vec(tx.to_vec(alloc).expect(rt, "memory"))
 }
 
 /// The addition of a transaction to a side.
+#[tactic(auto, unfolding(pair_rules::specs::World::is_event))]
 fn addition(rt: &impl Abort, alloc: Global, side: Side, tx: &[u8]) -> Event
     ensures { IsTrue (is_event result) }
 {
@@ -86,6 +88,7 @@ fn happen(rt: &impl Abort, duet: &mut Duet, event: Event)
 }
 
 /// The first so many bytes on the wire from a side reach the other, or all where there are fewer.
+#[tactic(auto, unfolding(pair_rules::specs::World::is_event))]
 pub(crate) fn deliver(rt: &impl Abort, duet: &mut Duet, from: Side, n: u64) {
     match from {
         Side::A => happen(rt, duet, Event::DeliverAb(n)),
@@ -100,6 +103,7 @@ pub(crate) fn add(rt: &impl Abort, alloc: Global, duet: &mut Duet, side: Side, n
 }
 
 /// The opener begins a round, where it may.
+#[tactic(auto, unfolding(pair_rules::specs::World::is_event))]
 pub(crate) fn begin(rt: &impl Abort, duet: &mut Duet) {
     happen(rt, duet, Event::Round);
 }
