@@ -10,7 +10,7 @@ use std::process::Abort;
 
 /// Adds so many transactions to a side, most of which the other lacks.
 fn add_some(rt: &impl Abort, alloc: Global, run: &mut Run, random: &mut Random, side: Side) {
-    let count = random.below(24);
+    let count = random.below(32);
     for _ in 0..count {
         add(rt, alloc, &mut run.duet, side, random.next());
     }
