@@ -55,52 +55,50 @@ fn since(rt: &HostRuntime, start: u128) -> io::Result<u128> {
     Ok(now(rt)?.saturating_sub(start))
 }'''
 
-POOLS = r'''/// Transaction `i`, of so many bytes.
-fn tx_of(alloc: Global, i: u64, len: usize) -> Result<Vec<u8>, AllocError> {
-    let mut tx = Vec::with_capacity(alloc, len)?;
-    tx.extend_from_slice(&i.to_le_bytes())?;
-    for _ in 8..len {
-        tx.push(7)?;
-    }
-    Ok(tx)
+POOLS = r'''/// The transaction of a number, which these bytes follow.
+fn tx_of(rt: &impl Abort, alloc: Global, number: u64, filler: &[u8]) -> Bytes
+    ensures { IsTrue (is_tx_length (length result)) }
+{
+    let mut tx = number.to_le_bytes().to_vec(alloc).expect(rt, "memory");
+    tx.extend_from_slice(filler).expect(rt, "memory");
+    assert!(rt; !tx.is_empty() && tx.len() <= TX_LIMIT);
+    Bytes::from_vec(tx)
 }
 
-/// Puts a transaction into a pool.
-fn insert(pool: &mut Pool, tx: Vec<u8>) -> Result<(), OutOfMemory> {
-    if !tx.is_empty() && tx.len() <= TX_LIMIT {
-        pool.insert(Bytes::from_vec(tx))?;
-    }
-    Ok(())
+/// The transactions of the numbers of a range. Each has these bytes behind its number.
+#[derive(Drop)]
+struct Numbers<'a> {
+    from: u64,
+    to: u64,
+    filler: &'a [u8],
 }
 
-/// The pool of the transactions of these numbers.
-fn pool_of(alloc: Global, from: u64, to: u64, len: usize) -> Result<Pool, OutOfMemory> {
+/// The pool of these transactions.
+fn pool_of(rt: &impl Abort, alloc: Global, numbers: &Numbers<'_>) -> Pool {
     let mut pool = Pool::empty(alloc);
-    for i in from..to {
-        insert(&mut pool, tx_of(alloc, i, len)?)?;
+    for number in numbers.from..numbers.to {
+        pool.insert(tx_of(rt, alloc, number, numbers.filler)).expect(rt, "memory");
     }
-    Ok(pool)
+    pool
 }
 
 /// Moves what a node has to send into the other, and answers how many bytes that was.
-fn pass(sender: &mut Node, reader: &mut Node) -> Option<usize> {
+fn pass(rt: &impl Abort, sender: &mut Node, reader: &mut Node) -> usize {
     let waiting = sender.outbox();
     let len = waiting.len();
-    if reader.take(waiting).is_err() {
-        return None;
-    }
+    reader.take(waiting).expect(rt, "no end");
     sender.drain(len);
-    Some(len)
+    len
 }
 
 /// Moves all that both have to send, and answers how many bytes that was.
-fn settle(a: &mut Node, b: &mut Node) -> Option<usize> {
+fn settle(rt: &impl Abort, a: &mut Node, b: &mut Node) -> usize {
     let mut total: usize = 0;
     for _ in 0..16 {
-        total = total.saturating_add(pass(a, b)?);
-        total = total.saturating_add(pass(b, a)?);
+        total = total.saturating_add(pass(rt, a, b));
+        total = total.saturating_add(pass(rt, b, a));
     }
-    Some(total)
+    total
 }'''
 
 PARTS = r'''//! Times the parts of a generated simulation.
@@ -331,14 +329,17 @@ fn main(rt: HostRuntime) -> io::Result<()> {
 ROUND = r'''//! Times a round of two nodes.
 #![tactic(auto)]
 
+ghost use Rattle.std.specs.Prelude.{length, IsTrue};
+ghost use Rattle.id_rules.specs.Bytes.{is_tx_length};
 ghost use Rattle.node_rules.specs.Invariant.{IsConfig};
 
 use base_types::{Bytes, OutOfMemory};
 use id_rules::TX_LIMIT;
 use node_rules::{Config, Role};
 use relay_node::Node;
-use std::alloc::{AllocError, Global};
+use std::alloc::Global;
 use std::io;
+use std::process::Abort;
 use std::time::CpuClock;
 use tx_pool::Pool;
 
@@ -349,17 +350,17 @@ use tx_pool::Pool;
 [POOLS]
 
 /// The time of the handshake, and how many bytes are sent in it.
-fn print_handshake(rt: &HostRuntime, a: &mut Node, b: &mut Node) -> io::Result<()> {
+fn print_handshake(rt: &HostRuntime, stop: &impl Abort, a: &mut Node, b: &mut Node) -> io::Result<()> {
     let start = now(rt)?;
-    let bytes = settle(a, b).unwrap_or(0);
+    let bytes = settle(stop, a, b);
     println!(rt; "handshake {} {bytes}", since(rt, start)?)
 }
 
 /// The time of a round, and how many bytes are sent in it.
-fn print_round(rt: &HostRuntime, a: &mut Node, b: &mut Node) -> io::Result<()> {
+fn print_round(rt: &HostRuntime, stop: &impl Abort, a: &mut Node, b: &mut Node) -> io::Result<()> {
     let start = now(rt)?;
-    let begun = a.begin_round().is_ok_and(|begun| begun);
-    let bytes = settle(a, b).unwrap_or(0);
+    let begun = a.begin_round().expect(stop, "memory");
+    let bytes = settle(stop, a, b);
     println!(rt; "round {} {bytes}", since(rt, start)?)?;
     println!(rt; "begun {} 0", begun as usize)
 }
@@ -372,34 +373,47 @@ fn print_end(rt: &HostRuntime, node: &Node) -> io::Result<()> {
     println!(rt; "pool {} 0", node.pool().len())
 }
 
+/// The times of both, and what they have behind the round.
+fn print_times(rt: &HostRuntime, stop: &impl Abort, a: &mut Node, b: &mut Node) -> io::Result<()> {
+    print_handshake(rt, stop, a, b)?;
+    print_round(rt, stop, a, b)?;
+    print_end(rt, a)?;
+    print_end(rt, b)
+}
+
+/// A node with 10,000 transactions of so many bytes and 8, from a number on.
+fn node_from(rt: &impl Abort, alloc: Global, role: Role, from: u64, len: usize) -> Node {
+    let filler = vec![in alloc; 7u8; len].expect(rt, "memory");
+    let numbers = Numbers {
+        from,
+        to: from.saturating_add(10_000),
+        filler: filler.as_slice(),
+    };
+    let pool = pool_of(rt, alloc, &numbers);
+    node_of(alloc, role, from, pool).expect(rt, "memory")
+}
+
 fn main(rt: HostRuntime) -> io::Result<()> {
-    let (Ok(pool), Ok(other)) = (pool_of(rt.alloc(), 0, 10_000, 250), pool_of(rt.alloc(), 500, 10_500, 250)) else {
-        return Ok(());
-    };
-    let Ok(mut a) = node_of(rt.alloc(), Role::Opener, 1, pool) else {
-        return Ok(());
-    };
-    let Ok(mut b) = node_of(rt.alloc(), Role::Accepter, 2, other) else {
-        return Ok(());
-    };
-    print_handshake(&rt, &mut a, &mut b)?;
-    print_round(&rt, &mut a, &mut b)?;
-    print_end(&rt, &a)?;
-    print_end(&rt, &b)
+    let mut a = node_from(&rt, rt.alloc(), Role::Opener, 0, 242);
+    let mut b = node_from(&rt, rt.alloc(), Role::Accepter, 500, 242);
+    print_times(&rt, &rt, &mut a, &mut b)
 }
 '''
 
 POOL = r'''//! Tells the memory of a node with a full pool.
 #![tactic(auto)]
 
+ghost use Rattle.std.specs.Prelude.{length, IsTrue};
+ghost use Rattle.id_rules.specs.Bytes.{is_tx_length};
 ghost use Rattle.node_rules.specs.Invariant.{IsConfig};
 
 use base_types::{Bytes, OutOfMemory};
 use id_rules::TX_LIMIT;
 use node_rules::{Config, Role};
 use relay_node::Node;
-use std::alloc::{AllocError, Global};
+use std::alloc::Global;
 use std::io;
+use std::process::Abort;
 use tx_pool::Pool;
 
 [CONFIG]
@@ -418,25 +432,35 @@ fn print_peak(rt: &HostRuntime, name: &str) -> io::Result<()> {
 }
 
 /// The memory behind the handshake with a node that has no transaction, and how many bytes are sent in it.
-fn print_handshake(rt: &HostRuntime, a: &mut Node) -> io::Result<()> {
-    let Ok(mut b) = node_of(rt.alloc(), Role::Accepter, 2, Pool::empty(rt.alloc())) else {
-        return Ok(());
-    };
-    let bytes = settle(a, &mut b).unwrap_or(0);
+fn print_handshake(rt: &HostRuntime, stop: &impl Abort, a: &mut Node, b: &mut Node) -> io::Result<()> {
+    let bytes = settle(stop, a, b);
     print_peak(rt, "handshake")?;
     println!(rt; "sent {bytes} {}", a.pool().byte_len())
 }
 
+/// The memory of the first node, before the handshake and behind it.
+fn print_memory(rt: &HostRuntime, stop: &impl Abort, a: &mut Node, b: &mut Node) -> io::Result<()> {
+    print_peak(rt, "node")?;
+    print_handshake(rt, stop, a, b)
+}
+
+/// A node with so many transactions of so many bytes and 8.
+fn node_with(rt: &impl Abort, alloc: Global, role: Role, count: u64, len: usize) -> Node {
+    let filler = vec![in alloc; 7u8; len].expect(rt, "memory");
+    let numbers = Numbers {
+        from: 0,
+        to: count,
+        filler: filler.as_slice(),
+    };
+    let pool = pool_of(rt, alloc, &numbers);
+    node_of(alloc, role, count, pool).expect(rt, "memory")
+}
+
 fn main(rt: HostRuntime) -> io::Result<()> {
     print_peak(&rt, "start")?;
-    let Ok(pool) = pool_of(rt.alloc(), 0, 50_000, 2_684) else {
-        return Ok(());
-    };
-    let Ok(mut node) = node_of(rt.alloc(), Role::Opener, 1, pool) else {
-        return Ok(());
-    };
-    print_peak(&rt, "node")?;
-    print_handshake(&rt, &mut node)
+    let mut a = node_with(&rt, rt.alloc(), Role::Opener, 50_000, 2_676);
+    let mut b = node_with(&rt, rt.alloc(), Role::Accepter, 0, 0);
+    print_memory(&rt, &rt, &mut a, &mut b)
 }
 '''
 
