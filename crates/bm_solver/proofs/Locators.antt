@@ -1,8 +1,8 @@
 -- The coefficients of a recurrence, read from its monic form.
-use Rattle.std.proofs.Common.{◌≡◌, ◌≢◌, ◌≤◌, List, [], ◌∷◌, length, drop, reverse, sym, ap, ◌∙◌, arith}
+use Rattle.std.proofs.Common.{◌≡◌, ◌≤◌, List, [], ◌∷◌, length, drop, reverse, sym, ap, ◌∙◌, arith}
 use Rattle.std.proofs.lemmas.List.{get_or-reverse, length-reverse, reverse-reverse}
 use Rattle.field_rules.specs.Ops.{Ops}
-use Rattle.poly_rules.specs.Polynomials.{coefficient, IsSamePolynomial, IsTrimmed, IsMonic, degree}
+use Rattle.poly_rules.specs.Polynomials.{coefficient, IsMonic, degree}
 use Rattle.bm_solver.specs.Locators.{coefficients_of}
 
 module _ {A : Type 0} (ops : Ops A) where

@@ -84,9 +84,6 @@ module _ {A : Type 0} (ops : Ops A) (ring : IsRing ops) where
   product_same_l {f} {f'} g h =
       same_along ops (product_comm f g) (same_along ops (product_same_r g h) (product_comm g f'))
 
-  pub product_same : {f f' g g' : List A} → IsSamePolynomial ops f f' → IsSamePolynomial ops g g' → IsSamePolynomial ops (product_of ops f g) (product_of ops f' g')
-  product_same {f} {f'} {g} {g'} h k = same_along ops (product_same_r f k) (product_same_l g' h)
-
   -- an element times a polynomial
   pub product_constant : (k : A) (f : List A) → IsSamePolynomial ops (product_of ops (k ∷ []) f) (scalar_multiple ops k f)
   unfolding product_of

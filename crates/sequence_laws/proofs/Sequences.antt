@@ -1,14 +1,13 @@
 -- Sequences: the sums of w e * e ^ k over a set, for k from a place on.
-use Rattle.std.proofs.Common.{◌≡◌, ℕ, zero, suc, ◌+◌, ◌-◌, ◌<◌, ◌≤◌, List, [], ◌∷◌, ◌++◌, length, get_or, take, drop, refl, sym, ap, ◌∙◌, arith, add-one}
+use Rattle.std.proofs.Common.{◌≡◌, ℕ, zero, suc, ◌+◌, ◌-◌, ◌<◌, ◌≤◌, List, [], ◌∷◌, ◌++◌, length, get_or, take, drop, refl, sym, ap, ◌∙◌, arith}
 use Rattle.std.proofs.Math.Nat.{suc-add}
 use Rattle.std.proofs.lemmas.List.{ext_get_or}
 use Rattle.field_rules.specs.Ops.{Ops, IsRing}
-use Rattle.sketch_rules.specs.PowerSums.{power_sum, power_sums}
 use Rattle.field_rules.specs.Fields.{dot_of}
 use Rattle.poly_rules.specs.Polynomials.{coefficient, value_at}
 use Rattle.field_laws.proofs.RingFacts.{times_zero}
 use Rattle.sequence_laws.specs.Sequences.{weighted, sequence_of}
-use Rattle.sequence_laws.proofs.Weighing.{weighted-zero, weighted-own}
+use Rattle.sequence_laws.proofs.Weighing.{weighted-zero}
 use Rattle.splitting_laws.specs.Parts.{IsCorrelation}
 use Rattle.sequence_laws.proofs.Weighing.{weighted-same, weighted-next, weighted-joined}
 
@@ -73,14 +72,6 @@ module _ {A : Type 0} (ops : Ops A) (ring : IsRing ops) where
   -- sequences of two weights whose sums are the same
   pub sequence_of-same : (v w : A → A) (es fs : List A) (n : ℕ) → ((k : ℕ) → k < n → weighted ops v k es ≡ weighted ops w k fs) → sequence_of ops v es 0 n ≡ sequence_of ops w fs 0 n
   sequence_of-same v w es fs n same = is_sequence w fs n (sequence_of ops v es 0 n) (length-sequence_of v es 0 n) (λ k lt. sequence_of-at v es n k lt ∙ same k lt)
-
-  -- the power sums are the sequence of the elements themselves
-  pub every_sum-sequence : (es : List A) (k n : ℕ) → power_sums ops es (k + 1) n ≡ sequence_of ops (λ e. e) es k n
-  unfolding power_sums sequence_of
-  every_sum-sequence es k zero = refl
-  every_sum-sequence es k (suc n) =
-      ap (λ z. z ∷ power_sums ops es (k + 1 + 1) n) (ap (λ j. power_sum ops j es) (add-one k) ∙ sym (weighted-own ops ring k es))
-      ∙ ap (λ z. weighted ops (λ e. e) k es ∷ z) (every_sum-sequence es (k + 1) n)
 
   -- ---- dots
 

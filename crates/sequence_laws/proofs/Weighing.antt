@@ -4,11 +4,9 @@ use Rattle.std.specs.Prelude.{filter}
 use Rattle.std.specs.List.{All}
 use Rattle.field_rules.specs.Lists.{AreDistinct}
 use Rattle.field_rules.specs.Ops.{Ops, IsRing, power}
-use Rattle.sketch_rules.specs.PowerSums.{power_sum}
 use Rattle.field_laws.proofs.RingFacts.{zero_plus, times_zero, zero_times, distributes_left, plus_swap, times_swap, square_plus}
 use Rattle.field_laws.proofs.Conjugates.{power-plus}
 use Rattle.field_laws.proofs.Weights.{weighted as weighted_in_ring, weighted-zero as weighted_in_ring-zero, lone_weight as lone_weight_in_ring}
-use Rattle.sketch_laws.proofs.Weights.{weighted-own as weighted_in_ring-own}
 use Rattle.sequence_laws.specs.Sequences.{weighted}
 
 module _ {A : Type 0} (ops : Ops A) (ring : IsRing ops) where
@@ -25,9 +23,6 @@ module _ {A : Type 0} (ops : Ops A) (ring : IsRing ops) where
 
   pub weighted-zero : (w : A → A) (k : ℕ) (xs : List A) → ((i : ℕ) (d : A) → i < length xs → w (get_or xs i d) ≡ ops.zero) → weighted ops w k xs ≡ ops.zero
   weighted-zero w k xs none = same_sum w k xs ∙ weighted_in_ring-zero ops ring w k xs none
-
-  pub weighted-own : (k : ℕ) (xs : List A) → weighted ops (λ x. x) k xs ≡ power_sum ops (suc k) xs
-  weighted-own k xs = same_sum (λ x. x) k xs ∙ weighted_in_ring-own ops ring k xs
 
   pub lone_weight : (no_zero_divisor : (a b : A) → ops.times a b ≡ ops.zero → (a ≡ ops.zero) ⊎ (b ≡ ops.zero))
       → (w : A → A) (xs : List A) → AreDistinct xs → ((k : ℕ) → k < length xs → weighted ops w k xs ≡ ops.zero)

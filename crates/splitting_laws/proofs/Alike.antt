@@ -14,8 +14,7 @@ use Rattle.poly_rules.specs.Roots.{IsRoot}
 use Rattle.splitting_laws.specs.Traces.{trace_polynomial}
 use Rattle.splitting_laws.specs.Parts.{part_of, others_of}
 use Rattle.splitting_laws.specs.Alike.{IsAlike}
-use Rattle.poly_laws.proofs.Values.{value_at-same}
-use Rattle.splitting_laws.proofs.Traces.{value_at-constant, traced_of}
+use Rattle.splitting_laws.proofs.Traces.{traced_of}
 use Rattle.splitting_laws.proofs.Parts.{IsToldBy, told_by_bits}
 
 module _ {A : Type 0} (ops : Ops A) (bits_of : A → ℕ) (n : ℕ) where
@@ -28,10 +27,6 @@ module _ {A : Type 0} (ops : Ops A) (bits_of : A → ℕ) (n : ℕ) where
   alike_part j p es alike = record {
     each = λ i b lt is. AllPairs-filter (λ x y. trace_of ops n (ops.times b x) ≡ trace_of ops n (ops.times b y)) p es (alike.each i b lt is);
   }
-
-  -- and so is a set of one member or none
-  pub alike_few : (j : ℕ) (es : List A) → length es ≤ 1 → IsAlike ops bits_of n j es
-  alike_few j es few = record { each = λ i b lt is k l d below within. absurd (omega arith) }
 
   -- at the end of the basis no two members are left
   pub alike_end : ((a b : A) → a ≢ b → IsSeparatedByTrace ops bits_of n a b) → (es : List A) → AreDistinct es → IsAlike ops bits_of n n es → length es ≤ 1
@@ -112,10 +107,3 @@ module _ {A : Type 0} (ops : Ops A) (ring : IsRing ops) (bits_of : A → ℕ) (n
     pub alike_in_others_of : IsAlike ops bits_of n (j + 1) (others_of ops bits_of t es)
     alike_in_others_of =
         alike_in_others ops bits_of n n numbered j b is t (λ e. nat_eq (bits_of (value_at ops t e)) 1) es (traced_of ops ring f n table b t es frobenius roots same) (told_of_traces f table b t es frobenius roots same) alike
-
-    -- a set that it doesn't part: the polynomial is one element alone
-    pub alike_unparted : (c : A) → IsSamePolynomial ops t (c ∷ []) → IsAlike ops bits_of n (j + 1) es
-    alike_unparted c constant =
-        alike_more ops bits_of n n numbered j b c es is
-        (λ i d lt. sym (traced_of ops ring f n table b t es frobenius roots same i d lt) ∙ value_at-same ops ring t (c ∷ []) (get_or es i d) constant ∙ value_at-constant ops ring c (get_or es i d))
-        alike

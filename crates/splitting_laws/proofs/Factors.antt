@@ -1,11 +1,9 @@
 -- The products of factors of the parts of a set, and of sets of one member.
-use Rattle.std.proofs.Common.{◌≡◌, Bool, true, false, not, cond, List, [], ◌∷◌, length, sym, ap, ◌∙◌, arith}
+use Rattle.std.proofs.Common.{◌≡◌, Bool, true, false, not, cond, List, [], ◌∷◌, ap, ◌∙◌}
 use Rattle.std.specs.Prelude.{filter}
-use Rattle.field_rules.specs.Ops.{Ops, IsRing, power}
-use Rattle.sketch_rules.specs.PowerSums.{power_sum}
+use Rattle.field_rules.specs.Ops.{Ops, IsRing}
 use Rattle.poly_rules.specs.Polynomials.{IsSamePolynomial, sum_of, product_of}
 use Rattle.poly_rules.specs.Roots.{with_roots}
-use Rattle.field_laws.proofs.RingFacts.{one_times}
 use Rattle.poly_laws.proofs.Sums.{same_along, scaled_one}
 use Rattle.poly_laws.proofs.Products.{product_same_r, product_assoc, product_comm, product_constant}
 
@@ -41,10 +39,3 @@ module _ {A : Type 0} (ops : Ops A) (ring : IsRing ops) where
   with_roots-lone e =
       ap (λ z. z ∷ ops.plus (ops.times ops.one ops.one) ops.zero ∷ []) (ring.plus_zero (ops.times e ops.one) ∙ ring.times_one e)
       ∙ ap (λ z. e ∷ z ∷ []) (ring.plus_zero (ops.times ops.one ops.one) ∙ ring.times_one ops.one)
-
-  -- it is its own first sum
-  pub power_sum-lone : (es : List A) → length es ≡ 1 → es ≡ power_sum ops 1 es ∷ []
-  unfolding power_sum power
-  power_sum-lone [] one = absurd (omega arith)
-  power_sum-lone (e ∷ []) one = ap (λ z. z ∷ []) (sym (ring.plus_zero (ops.times ops.one e) ∙ one_times ops ring e))
-  power_sum-lone (e ∷ f ∷ es) one = absurd (omega arith)

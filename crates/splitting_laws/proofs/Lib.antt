@@ -4,7 +4,6 @@ pub mod Extensions
 pub mod Traces
 pub mod Parts
 pub mod Factors
-pub mod Tables
 pub mod Returns
 pub mod Alike
 pub mod Permutations

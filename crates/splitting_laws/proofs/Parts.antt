@@ -5,10 +5,9 @@ use Rattle.std.specs.Prelude.{nat_eq, filter}
 use Rattle.std.specs.List.{All}
 use Rattle.std.specs.List.Sorted.{IsPermutation}
 use Rattle.std.proofs.lemmas.List.{ext_get_or}
-use Rattle.std.proofs.lemmas.List.Elements.{All-filter}
 use Rattle.std.proofs.lemmas.List.Filters.{length-filter_both}
 use Rattle.std.proofs.lemmas.List.Kept.{AllPairs-filter}
-use Rattle.std.proofs.lemmas.List.Sorted.{IsPermutation-filter_both, IsPermutation-append, IsPermutation-trans}
+use Rattle.std.proofs.lemmas.List.Sorted.{IsPermutation-filter_both}
 use Rattle.field_rules.specs.Ops.{Ops, IsRing, power}
 use Rattle.field_rules.specs.Fields.{dot_of}
 use Rattle.field_rules.specs.Numbered.{IsNumbered}
@@ -106,22 +105,6 @@ module _ {A : Type 0} (ops : Ops A) (ring : IsRing ops) where
       ap (λ z. z ∷ power_sums ops (filter (λ e. not (p e)) es) (k + 1) m) (power_sum-others p k es)
       ∙ ap (λ z. ops.plus (power_sum ops k es) (power_sum ops k (filter p es)) ∷ z) (power_sums-others p es (k + 1) m)
 
-  -- the same index by index, from more sums of the whole
-  pub sums_of_others : (p : A → Bool) (es : List A) (m n : ℕ) (v : List A) → m ≤ n → length v ≡ m
-      → ((k : ℕ) → k < m → coefficient ops v k ≡ ops.plus (coefficient ops (power_sums ops es 1 n) k) (coefficient ops (power_sums ops (filter p es) 1 m) k))
-      → v ≡ power_sums ops (filter (λ e. not (p e)) es) 1 m
-  sums_of_others p es m n v le size each =
-      ext_get_or ops.zero v (power_sums ops (filter (λ e. not (p e)) es) 1 m) (size ∙ sym (length-power_sums ops (filter (λ e. not (p e)) es) 1 m)) same
-    where
-      same : (k : ℕ) → k < length v → coefficient ops v k ≡ coefficient ops (power_sums ops (filter (λ e. not (p e)) es) 1 m) k
-      same k lt =
-          let within : k < m = omega arith in
-          each k within
-          ∙ ap (λ z. ops.plus z (coefficient ops (power_sums ops (filter p es) 1 m) k)) (get_or-power_sums ops es 1 n k ops.zero (omega arith))
-          ∙ ap (ops.plus (power_sum ops (1 + k) es)) (get_or-power_sums ops (filter p es) 1 m k ops.zero within)
-          ∙ sym (power_sum-others p (1 + k) es)
-          ∙ sym (get_or-power_sums ops (filter (λ e. not (p e)) es) 1 m k ops.zero within)
-
 -- ---- the parts as sets
 
 module _ {A : Type 0} (p : A → Bool) (es : List A) where
@@ -131,15 +114,6 @@ module _ {A : Type 0} (p : A → Bool) (es : List A) where
   pub part-differ : AreDistinct es → AreDistinct (filter p es)
   part-differ differ = AllPairs-filter (λ a b. a ≢ b) p es differ
 
-  pub part-nonzero : (ops : Ops A) → All (λ e. e ≢ ops.zero) es → All (λ e. e ≢ ops.zero) (filter p es)
-  part-nonzero ops nonzero = All-filter p (λ e. e ≢ ops.zero) es nonzero
-
   -- the set is its parts, in another order
   pub parts-together : IsPermutation es (filter p es ++ filter (λ e. not (p e)) es)
   parts-together = IsPermutation-filter_both p (λ e. not (p e)) (λ e. refl) es
-
-  -- what holds the parts holds the set
-  pub parts-found : (xs ys : List A) → IsPermutation (filter p es) xs → IsPermutation (filter (λ e. not (p e)) es) ys → IsPermutation es (xs ++ ys)
-  parts-found xs ys part others =
-      IsPermutation-trans es (filter p es ++ filter (λ e. not (p e)) es) (xs ++ ys) parts-together
-      (IsPermutation-append (filter p es) xs (filter (λ e. not (p e)) es) ys part others)

@@ -61,10 +61,6 @@ module _ {A : Type 0} (ops : Ops A) (ring : IsRing ops) where
       ∙ window_of_roots (with_roots ops es) es k n (with_roots-root ops ring es)
       (omega (arith, recurrence_of-length es, length-power_sums ops es 1 n, (with_roots-monic ops ring es).size)))
 
-  -- the three together
-  pub set_recurs : (es : List A) → (cs : List A) × (length cs ≡ length es) × (reverse (ops.one ∷ cs) ≡ with_roots ops es) × ((n : ℕ) → IsRecurrence ops cs (power_sums ops es 1 n))
-  set_recurs es = (recurrence_of ops es, recurrence_of-length es, recurrence_of-polynomial es, recurrence_of-holds es)
-
   -- a shortest recurrence is no longer than the set is large
   pub shortest_within : (cs es : List A) (n : ℕ) → IsShortest ops cs (power_sums ops es 1 n) → length cs ≤ length es
   shortest_within cs es n shortest = subst (λ z. length cs ≤ z) (recurrence_of-length es) (shortest.least (recurrence_of ops es) (recurrence_of-holds es n))

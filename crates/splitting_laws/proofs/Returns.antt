@@ -1,22 +1,22 @@
 -- A polynomial with more roots than its degree is zero. So where a polynomial is a product of distinct factors x + e, the
 -- remainders of x and of x ^ (2 ^ n) by it are one.
-use Rattle.std.proofs.Common.{◌≡◌, ℕ, ◌+◌, ◌≤◌, List, [], ◌∷◌, length, get_or, refl, sym, ap, ◌∙◌, arith}
+use Rattle.std.proofs.Common.{◌≡◌, ℕ, ◌+◌, ◌≤◌, List, [], length, get_or, refl, sym, ap, ◌∙◌, arith}
 use Rattle.std.specs.List.{All}
 use Rattle.std.proofs.lemmas.List.{get_or_past}
 use Rattle.field_rules.specs.Ops.{Ops, IsRing}
 use Rattle.field_rules.specs.Fields.{IsField}
 use Rattle.field_rules.specs.Lists.{AreDistinct}
-use Rattle.poly_rules.specs.Polynomials.{coefficient, IsSamePolynomial, IsTrimmed, IsMonic, value_at, sum_of}
+use Rattle.poly_rules.specs.Polynomials.{coefficient, IsSamePolynomial, IsMonic, value_at, sum_of}
 use Rattle.poly_rules.specs.Remainders.{IsFrobeniusTable}
 use Rattle.poly_rules.specs.Roots.{IsRoot, with_roots}
 use Rattle.field_laws.proofs.RingFacts.{zero_plus, plus_cancels}
 use Rattle.field_laws.proofs.Conjugates.{conjugate-none}
 use Rattle.poly_laws.proofs.Sums.{coefficient-sum, sum_none_same}
-use Rattle.poly_laws.proofs.Remainders.{length-sum-below, trimmed-same}
+use Rattle.poly_laws.proofs.Remainders.{length-sum-below}
 use Rattle.poly_laws.proofs.Division.{length-sum-r}
 use Rattle.poly_laws.proofs.Values.{value_at-sum}
 use Rattle.poly_laws.proofs.Roots.{with_roots-monic, with_roots-root, factors_of_roots}
-use Rattle.splitting_laws.proofs.Traces.{value_at-constant, value_at-frobenius}
+use Rattle.splitting_laws.proofs.Traces.{value_at-frobenius}
 
 module _ {A : Type 0} (ops : Ops A) (ring : IsRing ops) (bits : ℕ) (field : IsField ops bits) where
   -- a polynomial with no more coefficients than it has distinct roots is zero: with the product of their factors it is
@@ -93,16 +93,3 @@ module _ {A : Type 0} (ops : Ops A) (ring : IsRing ops) (bits : ℕ) (field : Is
       frobenius_returns f es table (ap length is ∙ (with_roots-monic ops ring es).size)
       (λ i d lt. ap (λ z. value_at ops z (get_or es i d)) is ∙ with_roots-root ops ring es i d lt)
       differ frobenius
-
-  -- as lists, where neither ends in a zero
-  pub frobenius_returns_list : (f es : List A) (table : List (List A)) → f ≡ with_roots ops es → AreDistinct es
-      → IsFrobeniusTable ops f bits table → IsTrimmed ops (get_or table 0 []) → IsTrimmed ops (get_or table bits []) → get_or table 0 [] ≡ get_or table bits []
-  frobenius_returns_list f es table is differ frobenius first last =
-      trimmed-same ops (get_or table 0 []) (get_or table bits []) first last (frobenius_returns_at f es table is differ frobenius)
-
-  -- a polynomial with no more coefficients than there are elements is an element alone, where it has one value at all of
-  -- them
-  pub constant_of_values : (t es : List A) (c : A) → 1 ≤ length es → length t ≤ length es → AreDistinct es
-      → All (λ e. value_at ops t e ≡ c) es → IsSamePolynomial ops t (c ∷ [])
-  constant_of_values t es c some short differ one =
-      same_of_values t (c ∷ []) es short some differ (λ i d lt. one i d lt ∙ sym (value_at-constant ops ring c (get_or es i d)))

@@ -1,7 +1,7 @@
 -- Correlations item by item: each is added, times the list turned round, where it has a part.
 use Rattle.std.proofs.Common.{◌≡◌, ◌⊎◌, inl, inr, ℕ, zero, suc, ◌+◌, ◌-◌, ◌<◌, ◌≤◌, List, [], ◌∷◌, ◌++◌, length, get_or, take, drop, reverse, replicate, refl, sym, ap, ◌∙◌, arith, length-append, length-drop}
 use Rattle.std.proofs.lemmas.Bool.{cases_lt}
-use Rattle.std.proofs.lemmas.List.{length-take-le, length-map, length-replicate, length-reverse, get_or-replicate, get_or-reverse, get_or-take, get_or-drop, get_or-append_right, get_or_append_left, get_or_past, take_more, drop_all, drop-append-le}
+use Rattle.std.proofs.lemmas.List.{length-take-le, length-replicate, length-reverse, get_or-replicate, get_or-reverse, get_or-take, get_or-drop, get_or-append_right, get_or_append_left, get_or_past, take_more, drop_all, drop-append-le}
 use borrow.Rule.Slice.PartMut.{mid_of, put_mid}
 use Rattle.field_rules.specs.Ops.{Ops, IsRing}
 use Rattle.field_rules.specs.Fields.{with_multiple, dot_of}
