@@ -1,9 +1,6 @@
 pub mod Windows
 pub mod Recurrences
-pub mod Extensions
-pub mod Traces
 pub mod Parts
 pub mod Factors
-pub mod Returns
 pub mod Alike
 pub mod Permutations

@@ -120,10 +120,3 @@ module _ {A : Type 0} (ops : Ops A) (ring : IsRing ops) where
         → IsShortest ops cs (power_sums ops es 1 n) → (length cs ≡ length es) × (reverse (ops.one ∷ cs) ≡ with_roots ops es)
     shortest_of_set cs es n differ nonzero long shortest =
         shortest_only cs es n differ nonzero (omega (arith, shortest_within cs es n shortest)) shortest
-
-    -- of two sets that have as many elements together as there are sums, the one with the shorter recurrence
-    pub smaller_part : (cs ds es fs : List A) (n : ℕ) → AreDistinct es → All (λ e. e ≢ ops.zero) es → length es + length fs ≡ n
-        → IsShortest ops cs (power_sums ops es 1 n) → IsShortest ops ds (power_sums ops fs 1 n) → length cs ≤ length ds
-        → (length cs ≡ length es) × (reverse (ops.one ∷ cs) ≡ with_roots ops es)
-    smaller_part cs ds es fs n differ nonzero together shortest other shorter =
-        shortest_only cs es n differ nonzero (omega (arith, shortest_within ds fs n other)) shortest

@@ -1,6 +1,6 @@
 -- Dots of a polynomial with windows of the power sums of a set: each is a sum, over the elements, of the polynomial's
 -- values, weighted by powers.
-use Rattle.std.proofs.Common.{◌≡◌, ℕ, zero, suc, ◌+◌, ◌-◌, ◌≤◌, List, [], ◌∷◌, length, take, drop, refl, sym, ap, ◌∙◌, arith, add-one}
+use Rattle.std.proofs.Common.{◌≡◌, ℕ, zero, suc, ◌+◌, ◌-◌, ◌≤◌, List, [], ◌∷◌, length, drop, refl, sym, ap, ◌∙◌, arith, add-one}
 use Rattle.std.proofs.Math.Nat.{suc-add}
 use Rattle.field_rules.specs.Ops.{Ops, IsRing, power}
 use Rattle.field_rules.specs.Fields.{dot_of}
@@ -29,13 +29,6 @@ module _ {A : Type 0} (ops : Ops A) where
   drop-power_sums es k j n le =
       let whole : n ≡ j + (n - j) = omega arith in
       ap (λ z. drop j (power_sums ops es k z)) whole ∙ drop_first es k j (n - j)
-
-  -- the first of the sums
-  pub take-power_sums : (es : List A) (k m n : ℕ) → m ≤ n → take m (power_sums ops es k n) ≡ power_sums ops es k m
-  unfolding power_sums
-  take-power_sums es k zero n le = refl
-  take-power_sums es k (suc m) zero le = absurd (omega arith)
-  take-power_sums es k (suc m) (suc n) le = ap (λ z. power_sum ops k es ∷ z) (take-power_sums es (k + 1) m n (omega arith))
 
 module _ {A : Type 0} (ops : Ops A) (ring : IsRing ops) where
   -- ---- the sum over the elements
