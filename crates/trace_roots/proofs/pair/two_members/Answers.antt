@@ -1,4 +1,4 @@
-use Rattle.std.proofs.Common.{◌≡◌, [], ◌∷◌, get_or, true, false, sym, ap, subst, ◌∙◌}
+use Rattle.std.proofs.Common.{[], ◌∷◌, get_or, sym, ap, subst, ◌∙◌}
 use Rattle.std.specs.List.Sorted.{IsPermutation}
 use Rattle.field_laws.proofs.Numbers.{equal_bits}
 use Rattle.trace_roots.proofs.Solving.{pair_of, pair_sum, pair_solution, pair_members}
