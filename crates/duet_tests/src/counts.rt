@@ -3,7 +3,7 @@
 use pool_rules::Ending;
 
 /// How often rounds ended in each way.
-#[derive(Clone, Copy, Debug, PartialEq, Eq)]
+#[derive(Clone, Copy)]
 pub(crate) struct Counts {
     pub(crate) first: u32,
     pub(crate) extension: u32,
