@@ -1,14 +1,11 @@
 #!/usr/bin/env python3
-"""Tests of erlay.py, and of the shared library against the program `erlay`.
+"""Tests of erlay.py, and of the shared library against the definition of a sketch.
 
   ERLAY_LIBRARY=FOLDER/lib/liberlay.so python/test_erlay.py
-
-The program is `./erlay` at the top, which builds it where it is missing.
 """
 import os
 import random
 import re
-import subprocess
 import unittest
 
 import erlay
@@ -17,12 +14,41 @@ from erlay import Code, Sketch
 TOP = os.path.dirname(os.path.dirname(os.path.abspath(__file__)))
 
 
-def program(*words: str, lines: list[str], status: int = 0) -> list[str]:
-    """The lines that the program writes for these lines of input. It must end with the status."""
-    ran = subprocess.run([os.path.join(TOP, "erlay"), *words], input="".join(f"{line}\n" for line in lines), stdout=subprocess.PIPE, text=True, check=False)
-    if ran.returncode != status:
-        raise AssertionError(f"erlay {words}: status {ran.returncode}: {ran.stdout}")
-    return ran.stdout.splitlines()
+def times_x(a: int) -> int:
+    """The product with x in the field of 2^32 elements, modulo x^32 + x^7 + x^3 + x^2 + 1."""
+    return a << 1 ^ (0x1_0000_008D if a >> 31 else 0)
+
+
+def multiples(factor: int) -> list[list[int]]:
+    """The products of the factor with each value of each nibble."""
+    rows = []
+    for _ in range(8):
+        row = [0]
+        for _ in range(4):
+            row += [entry ^ factor for entry in row]
+            factor = times_x(factor)
+        rows.append(row)
+    return rows
+
+
+def product(rows: list[list[int]], a: int) -> int:
+    """The product of the factor of these multiples and an element."""
+    result = 0
+    for row in rows:
+        result ^= row[a & 15]
+        a >>= 4
+    return result
+
+
+def sketch_of(elements: list[int], capacity: int) -> bytes:
+    """The sums of the odd powers 1, 3, 5, .. of the elements, as many as the capacity, each of four bytes, lowest first."""
+    sums = [0] * capacity
+    for element in elements:
+        square, power = multiples(product(multiples(element), element)), element
+        for place in range(capacity):
+            sums[place] ^= power
+            power = product(square, power)
+    return b"".join(number.to_bytes(4, "little") for number in sums)
 
 
 class Worked(unittest.TestCase):
@@ -90,7 +116,7 @@ class Refusals(unittest.TestCase):
         self.assertEqual(bytes(sketch), before)
 
 
-class AgainstTheProgram(unittest.TestCase):
+class AgainstTheDefinition(unittest.TestCase):
     def test_random_sets(self) -> None:
         source = random.Random(20)
         for capacity, size, differing in [(1, 0, 0), (1, 3, 1), (2, 10, 2), (3, 7, 6), (8, 200, 8), (20, 50, 19), (33, 1000, 40), (64, 2000, 64), (256, 300, 255), (511, 600, 511), (700, 20, 1400)]:
@@ -98,28 +124,30 @@ class AgainstTheProgram(unittest.TestCase):
             part = source.randint(0, differing)
             ours, theirs = elements[:size + part], elements[:size] + elements[size + part:]
             sketches = [Sketch.of(numbers, capacity) for numbers in (ours, theirs)]
-            lines = [program("make", str(capacity), lines=[f"{number:08x}" for number in numbers]) for numbers in (ours, theirs)]
-            self.assertEqual([[bytes(sketch).hex()] for sketch in sketches], lines)
+            self.assertEqual([bytes(sketch) for sketch in sketches], [sketch_of(numbers, capacity) for numbers in (ours, theirs)])
             merged = sketches[0].merged(sketches[1])
-            self.assertEqual([bytes(merged).hex()], program("merge", lines=lines[0] + lines[1]))
+            self.assertEqual(bytes(merged), sketch_of(elements[size:], capacity))
             if differing <= capacity:
-                found = merged.decode()
-                self.assertEqual(found, set(elements[size:]))
-                self.assertEqual([f"{number:08x}" for number in sorted(found)], program("decode", lines=[bytes(merged).hex()]))
+                self.assertEqual(merged.decode(), set(elements[size:]))
             else:
                 with self.assertRaises(erlay.NoSet):
                     merged.decode()
-                self.assertEqual(program("decode", lines=[bytes(merged).hex()], status=3), ["no set"])
 
     def test_random_bytes(self) -> None:
         source = random.Random(21)
-        for capacity in [1, 1, 2, 2, 2, 2, 3, 3, 3, 9, 40]:
+        sets = 0
+        for capacity in [1] * 4 + [2] * 20 + [3] * 40 + [9, 40]:
             sketch = Sketch.from_bytes(source.randbytes(4 * capacity))
             try:
-                found, status = [f"{number:08x}" for number in sorted(sketch.decode())], 0
+                found = sorted(sketch.decode())
             except erlay.NoSet:
-                found, status = ["no set"], 3
-            self.assertEqual(program("decode", lines=[bytes(sketch).hex()], status=status), found)
+                self.assertNotEqual(capacity, 1)
+                continue
+            sets += 1
+            self.assertLessEqual(len(found), capacity)
+            self.assertEqual(bytes(sketch), sketch_of(found, capacity))
+        # each of capacity 1 has a set, about a half of capacity 2, and a sixth of capacity 3
+        self.assertGreater(sets, 12)
 
 
 if __name__ == "__main__":
