@@ -13,8 +13,7 @@
   script fails where it is more than twice the bytes that the pool holds.
 
 Processor times, the best of several runs, each of a process of its own. The calls are timed by programs that are laid out
-beside copies of the crates in a temporary folder, proved and built there (some minutes each the first time), and run. Each
-of the four was proved and run by hand; the script as a whole has not run yet.
+beside copies of the crates in a temporary folder, proved and built there (some minutes the first time), and run.
 """
 import os, shutil, subprocess, sys, tempfile
 
