@@ -59,10 +59,10 @@ fn run_scripts(rt: &impl Abort, alloc: Global, tops: Tops, seed: u64, counts: &m
     check(rt, &run, counts);
 }
 
-/// How the rounds of 25 scripts ended.
+/// How the rounds of a hundred scripts ended.
 fn counts_at(rt: &impl Abort, alloc: Global, tops: Tops) -> Counts {
     let mut counts = NONE;
-    for seed in 0..25 {
+    for seed in 0..100 {
         run_scripts(rt, alloc, tops, seed, &mut counts);
     }
     counts
