@@ -1,8 +1,9 @@
--- What rows have the multiples by: elements told by their bits, and the bits of four places.
+-- What rows have the multiples by: elements told by their bits, and the bits of eight places.
 use Rattle.std.proofs.Common.{◌≡◌, ◌≢◌, ℕ, ◌+◌, ◌-◌, ◌*◌, ◌/◌, ◌%◌, ◌^◌, ◌<◌, ◌≤◌, List, length, map, take, drop, replicate, length-drop, refl, sym, ap, ap₂, subst, ◌∙◌, arith, pow_mono, lit<}
 use Rattle.std.specs.Int.Bits.{bit_xor, xor_comm, xor_shifted}
+use Rattle.std.proofs.Math.Pow.{mod-mod-pow}
 use Rattle.std.proofs.Math.Nat.{mod-lt, mod-one, mod-eq_of_lt, le_trans}
-use Rattle.std.proofs.lemmas.Nat.{pow_pos, pow-add, shl_below, shr-shr, mod-pow-add}
+use Rattle.std.proofs.lemmas.Nat.{pow_pos, pow-add, shl_below, shr-shr, mod-pow-add, div-mul-add}
 use Rattle.std.proofs.lemmas.List.{length-map, drop-map}
 use Rattle.field_rules.specs.Ops.{Ops, IsRing}
 use Rattle.field_rules.specs.Fields.{with_multiple}
@@ -10,7 +11,7 @@ use Rattle.field_rules.specs.Lists.{sums_of_both}
 use Rattle.field_rules.specs.Numbered.{IsNumbered}
 use Rattle.field_laws.proofs.Numbers.{width_positive}
 use Rattle.list_multiples.specs.Rows.{row_of, row_count, factor, IsRow, AreRows, AreAllRows}
-use Rattle.list_multiples.proofs.Sums.{multiples_added, multiple_of_zeros, zeros_are, none_added, multiple_added, length-both, once, sums_of_five}
+use Rattle.list_multiples.proofs.Sums.{multiples_added, multiple_of_zeros, zeros_are, none_added, multiple_added, length-both, once}
 use Rattle.list_multiples.proofs.RowLists.{part_of_row}
 
 -- ---- factors of rows
@@ -65,32 +66,32 @@ module _ (r bit : ℕ) (least : 2 ^ bit ≤ r % 16) (most : r % 16 < 2 * 2 ^ bit
 abbrev pub IsAddedBelow : {A : Type 0} → Ops A → (A → ℕ) → ℕ → ℕ → List A → List A → List A → Type 0
 IsAddedBelow {A = A} ops bits_of bits w acc items new = (m : A) → bits_of m ≡ bits % 2 ^ (4 * w) → new ≡ with_multiple ops acc m items
 
--- ---- the bits of four places
+-- ---- the bits of eight places
 
-pub undivided : (b : ℕ) → b / 2 ^ (16 * 0) ≡ b
+pub undivided : (b : ℕ) → b / 2 ^ (32 * 0) ≡ b
 undivided b = omega arith
 
--- the next sixteen bits
-pub next_word : (k bits step : ℕ) → bits ≡ k / 2 ^ (16 * step) → bits / 2 ^ 16 ≡ k / 2 ^ (16 * (step + 1))
-next_word k bits step is = let exponent : 16 * step + 16 ≡ 16 * (step + 1) = omega arith in ap (λ z. z / 2 ^ 16) is ∙ shr-shr k (16 * step) 16 ∙ ap (λ z. k / 2 ^ z) exponent
+-- the next 32 bits
+pub next_word : (k bits step : ℕ) → bits ≡ k / 2 ^ (32 * step) → bits / 2 ^ 32 ≡ k / 2 ^ (32 * (step + 1))
+next_word k bits step is = let exponent : 32 * step + 32 ≡ 32 * (step + 1) = omega arith in ap (λ z. z / 2 ^ 32) is ∙ shr-shr k (32 * step) 32 ∙ ap (λ z. k / 2 ^ z) exponent
 
--- nibble i of sixteen bits is nibble w of all
-nibble_at : (k bits step i w n : ℕ) → bits ≡ k / 2 ^ (16 * step) → w ≡ 4 * step + i → n ≡ bits / 2 ^ (4 * i) % 16 → n ≡ k / 2 ^ (4 * w) % 16
-nibble_at k bits step i w n is at value =
-    let exponent : 16 * step + 4 * i ≡ 4 * w = omega (arith, at) in
-    value ∙ ap (λ z. z / 2 ^ (4 * i) % 16) is ∙ ap (λ z. z % 16) (shr-shr k (16 * step) (4 * i) ∙ ap (λ z. k / 2 ^ z) exponent)
+-- four bits of the low m + 4 + j bits, from bit m on
+low_nibble : (b m j : ℕ) → b % 2 ^ (j + 4 + m) / 2 ^ m % 2 ^ 4 ≡ b / 2 ^ m % 2 ^ 4
+low_nibble b m j =
+    ap (λ z. z / 2 ^ m % 2 ^ 4) (mod-pow-add b (j + 4) m)
+    ∙ ap (λ z. z % 2 ^ 4) (div-mul-add (b / 2 ^ m % 2 ^ (j + 4)) (2 ^ m) (b % 2 ^ m) (mod-lt b (pow_pos m)))
+    ∙ mod-mod-pow (b / 2 ^ m) j 4
 
-low_0 : (b : ℕ) → b % 65536 / 1 % 16 ≡ b / 1 % 16
-low_0 b = omega arith
-
-low_1 : (b : ℕ) → b % 65536 / 16 % 16 ≡ b / 16 % 16
-low_1 b = omega arith
-
-low_2 : (b : ℕ) → b % 65536 / 256 % 16 ≡ b / 256 % 16
-low_2 b = omega arith
-
-low_3 : (b : ℕ) → b % 65536 / 4096 % 16 ≡ b / 4096 % 16
-low_3 b = omega arith
+-- nibble i of a word of 32 bits of k
+nibble_at : (k bits word step i v : ℕ) → bits ≡ k / 2 ^ (32 * step) → word ≡ bits % 2 ^ 32 → i < 8 → v ≡ word / 2 ^ (4 * i) % 16 → v ≡ k / 2 ^ (4 * (8 * step + i)) % 16
+nibble_at k bits word step i v bits_is word_is lt value =
+    let size : 32 ≡ 28 - 4 * i + 4 + 4 * i = omega arith in
+    let exponent : 32 * step + 4 * i ≡ 4 * (8 * step + i) = omega arith in
+    value
+    ∙ ap (λ z. z / 2 ^ (4 * i) % 16) (word_is ∙ ap (λ z. bits % 2 ^ z) size)
+    ∙ low_nibble bits (4 * i) (28 - 4 * i)
+    ∙ ap (λ z. z / 2 ^ (4 * i) % 16) bits_is
+    ∙ ap (λ z. z % 16) (shr-shr k (32 * step) (4 * i) ∙ ap (λ z. k / 2 ^ z) exponent)
 
 module _ {A : Type 0} (ops : Ops A) (bits_of : A → ℕ) (width : ℕ) (numbered : IsNumbered ops bits_of width) where
   -- an element as a sum, by its bits
@@ -191,7 +192,7 @@ module _ {A : Type 0} (ops : Ops A) (bits_of : A → ℕ) (width : ℕ) (numbere
     all_below k w acc items new past added = added k (sym (mod-eq_of_lt (le_trans (numbered.below k) (pow_mono past))))
 
     -- one row more
-    pub row_below : (list rows : List A) (count from bits w r : ℕ) (acc mid part new : List A) → AreRows ops bits_of count list rows → from + length acc ≤ length list → r < count → r ≡ 16 * w + bits / 2 ^ (4 * w) % 16
+    row_below : (list rows : List A) (count from bits w r : ℕ) (acc mid part new : List A) → AreRows ops bits_of count list rows → from + length acc ≤ length list → r < count → r ≡ 16 * w + bits / 2 ^ (4 * w) % 16
         → IsAddedBelow ops bits_of bits w acc (drop from list) mid → part ≡ take (length acc) (drop (r * length list + from) rows) → new ≡ sums_of_both ops mid part → IsAddedBelow ops bits_of bits (w + 1) acc (drop from list) new
     row_below list rows count from bits w r acc mid part new are inside lt at added part_is is m m_bits =
         is
@@ -227,69 +228,29 @@ module _ {A : Type 0} (ops : Ops A) (bits_of : A → ℕ) (width : ℕ) (numbere
             ∙ ap (λ z. take (length acc) (drop from z)) ((are.each r lt).products parts.second (parts.second_bits ∙ factor_is))
             ∙ ap (take (length acc)) (drop-map (ops.times parts.second) from list)
 
-    -- four rows more
-    pub word_below : (list rows : List A) (count n from k step bits word n0 n1 n2 n3 : ℕ) (acc mid p0 p1 p2 p3 new : List A) → AreRows ops bits_of count list rows → length list ≡ n → from + length acc ≤ n → 64 * step + 64 ≤ count
-        → bits ≡ k / 2 ^ (16 * step) → word ≡ bits % 65536 → n0 ≡ word / 1 % 16 → n1 ≡ word / 16 % 16 → n2 ≡ word / 256 % 16 → n3 ≡ word / 4096 % 16
-        → p0 ≡ take (length acc) (drop ((64 * step + n0) * n + from) rows) → p1 ≡ take (length acc) (drop ((64 * step + 16 + n1) * n + from) rows)
-        → p2 ≡ take (length acc) (drop ((64 * step + 32 + n2) * n + from) rows) → p3 ≡ take (length acc) (drop ((64 * step + 48 + n3) * n + from) rows)
-        → new ≡ sums_of_five ops mid p0 p1 p2 p3 → IsAddedBelow ops bits_of k (4 * step) acc (drop from list) mid → IsAddedBelow ops bits_of k (4 * (step + 1)) acc (drop from list) new
-    word_below list rows count n from k step bits word n0 n1 n2 n3 acc mid p0 p1 p2 p3 new are size fits last bits_is word_is is0 is1 is2 is3 at0 at1 at2 at3 is added =
-        subst (λ w. IsAddedBelow ops bits_of k w acc (drop from list) new) whole
-        (row_below list rows count from k (4 * step + 1 + 1 + 1) (64 * step + 48 + n3) acc (sums_of_both ops (sums_of_both ops (sums_of_both ops mid p0) p1) p2) p3 new are inside (below 48 n3 (omega arith) small3) (place 48 3 (4 * step + 1 + 1 + 1) n3 refl (omega arith) nibble3)
-        (row_below list rows count from k (4 * step + 1 + 1) (64 * step + 32 + n2) acc (sums_of_both ops (sums_of_both ops mid p0) p1) p2 (sums_of_both ops (sums_of_both ops (sums_of_both ops mid p0) p1) p2) are inside (below 32 n2 (omega arith) small2) (place 32 2 (4 * step + 1 + 1) n2 refl (omega arith) nibble2)
-        (row_below list rows count from k (4 * step + 1) (64 * step + 16 + n1) acc (sums_of_both ops mid p0) p1 (sums_of_both ops (sums_of_both ops mid p0) p1) are inside (below 16 n1 (omega arith) small1) (place 16 1 (4 * step + 1) n1 refl (omega arith) nibble1)
-        (row_below list rows count from k (4 * step) (64 * step + n0) acc mid p0 (sums_of_both ops mid p0) are inside (omega (arith, small0, last)) (subst (λ z. 64 * step + n0 ≡ 16 * (4 * step) + z) nibble0 (omega arith)) added (at0 ∙ sized (64 * step + n0)) refl)
-        (at1 ∙ sized (64 * step + 16 + n1)) refl)
-        (at2 ∙ sized (64 * step + 32 + n2)) refl)
-        (at3 ∙ sized (64 * step + 48 + n3)) is)
+    -- the row of a nibble more
+    pub nibble_below : (list rows : List A) (count n from k step bits word : ℕ) (acc : List A) → AreRows ops bits_of count list rows → length list ≡ n → from + length acc ≤ n → 128 * step + 128 ≤ count
+        → bits ≡ k / 2 ^ (32 * step) → word ≡ bits % 2 ^ 32 → (i v r : ℕ) (mid part : List A) → i < 8 → r ≡ 128 * step + 16 * i + v → v ≡ word / 2 ^ (4 * i) % 16
+        → part ≡ take (length acc) (drop (r * n + from) rows) → IsAddedBelow ops bits_of k (8 * step + i) acc (drop from list) mid
+        → IsAddedBelow ops bits_of k (8 * step + (i + 1)) acc (drop from list) (sums_of_both ops mid part)
+    nibble_below list rows count n from k step bits word acc are size fits last bits_is word_is i v r mid part lt row value at added =
+        subst (λ w. IsAddedBelow ops bits_of k w acc (drop from list) (sums_of_both ops mid part)) next
+        (row_below list rows count from k (8 * step + i) r acc mid part (sums_of_both ops mid part) are inside (omega (arith, small, last, lt, row)) place added (at ∙ sized) refl)
       where
-        whole : 4 * step + 1 + 1 + 1 + 1 ≡ 4 * (step + 1)
-        whole = omega arith
+        next : 8 * step + i + 1 ≡ 8 * step + (i + 1)
+        next = omega arith
 
         inside : from + length acc ≤ length list
         inside = omega (arith, size, fits)
 
-        sized : (r : ℕ) → take (length acc) (drop (r * n + from) rows) ≡ take (length acc) (drop (r * length list + from) rows)
-        sized r = ap (λ z. take (length acc) (drop (r * z + from) rows)) (sym size)
+        sized : take (length acc) (drop (r * n + from) rows) ≡ take (length acc) (drop (r * length list + from) rows)
+        sized = ap (λ z. take (length acc) (drop (r * z + from) rows)) (sym size)
 
-        value0 : n0 ≡ bits / 1 % 16
-        value0 = is0 ∙ ap (λ z. z / 1 % 16) word_is ∙ low_0 bits
+        nibble : v ≡ k / 2 ^ (4 * (8 * step + i)) % 16
+        nibble = nibble_at k bits word step i v bits_is word_is lt value
 
-        value1 : n1 ≡ bits / 16 % 16
-        value1 = is1 ∙ ap (λ z. z / 16 % 16) word_is ∙ low_1 bits
+        small : v < 16
+        small = subst (λ z. z < 16) (sym value) (mod-lt (word / 2 ^ (4 * i)) (lit< tt))
 
-        value2 : n2 ≡ bits / 256 % 16
-        value2 = is2 ∙ ap (λ z. z / 256 % 16) word_is ∙ low_2 bits
-
-        value3 : n3 ≡ bits / 4096 % 16
-        value3 = is3 ∙ ap (λ z. z / 4096 % 16) word_is ∙ low_3 bits
-
-        nibble0 : n0 ≡ k / 2 ^ (4 * (4 * step)) % 16
-        nibble0 = nibble_at k bits step 0 (4 * step) n0 bits_is (omega arith) value0
-
-        nibble1 : n1 ≡ k / 2 ^ (4 * (4 * step + 1)) % 16
-        nibble1 = nibble_at k bits step 1 (4 * step + 1) n1 bits_is (omega arith) value1
-
-        nibble2 : n2 ≡ k / 2 ^ (4 * (4 * step + 1 + 1)) % 16
-        nibble2 = nibble_at k bits step 2 (4 * step + 1 + 1) n2 bits_is (omega arith) value2
-
-        nibble3 : n3 ≡ k / 2 ^ (4 * (4 * step + 1 + 1 + 1)) % 16
-        nibble3 = nibble_at k bits step 3 (4 * step + 1 + 1 + 1) n3 bits_is (omega arith) value3
-
-        small0 : n0 < 16
-        small0 = subst (λ z. z < 16) (sym value0) (mod-lt (bits / 1) (lit< tt))
-
-        small1 : n1 < 16
-        small1 = subst (λ z. z < 16) (sym value1) (mod-lt (bits / 16) (lit< tt))
-
-        small2 : n2 < 16
-        small2 = subst (λ z. z < 16) (sym value2) (mod-lt (bits / 256) (lit< tt))
-
-        small3 : n3 < 16
-        small3 = subst (λ z. z < 16) (sym value3) (mod-lt (bits / 4096) (lit< tt))
-
-        below : (offset v : ℕ) → offset ≤ 48 → v < 16 → 64 * step + offset + v < count
-        below offset v le small = omega (arith, last)
-
-        place : (offset i w v : ℕ) → offset ≡ 16 * i → w ≡ 4 * step + i → v ≡ k / 2 ^ (4 * w) % 16 → 64 * step + offset + v ≡ 16 * w + k / 2 ^ (4 * w) % 16
-        place offset i w v e at value = subst (λ z. 64 * step + offset + v ≡ 16 * w + z) value (omega (arith, e, at))
+        place : r ≡ 16 * (8 * step + i) + k / 2 ^ (4 * (8 * step + i)) % 16
+        place = subst (λ z. r ≡ 16 * (8 * step + i) + z) nibble (omega (arith, row))

@@ -1,3 +1,4 @@
 pub mod Sums
 pub mod RowLists
 pub mod Factors
+pub mod Blocks

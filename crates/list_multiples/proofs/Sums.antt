@@ -1,5 +1,5 @@
--- Sums of two lists, and of multiples of one list.
-use Rattle.std.proofs.Common.{◌≡◌, ℕ, suc, ◌+◌, ◌<◌, ◌≤◌, List, [], ◌∷◌, ◌++◌, length, map, get_or, take, drop, set, replicate, refl, sym, ap, ap₂, ◌∙◌, append_assoc, add-one, arith}
+-- Sums of lists, and of multiples of one list.
+use Rattle.std.proofs.Common.{◌≡◌, ℕ, suc, ◌+◌, ◌<◌, ◌≤◌, List, [], ◌∷◌, ◌++◌, length, map, get_or, take, drop, set, replicate, refl, sym, ap, ap₂, ◌∙◌, append_assoc, add-one, fold, arith}
 use Rattle.std.proofs.Math.Seq.{drop-cons}
 use Rattle.std.proofs.Math.ListN.{drop_of_length-le}
 use Rattle.std.proofs.lemmas.List.{take_more_set, drop-set-lt, take-append-drop}
@@ -8,53 +8,51 @@ use Rattle.field_rules.specs.Fields.{with_multiple}
 use Rattle.field_rules.specs.Lists.{sums_of_both}
 use Rattle.field_laws.proofs.RingFacts.{zero_plus, zero_times, one_times, distributes_left}
 
--- a list from the index i on, where x is the item there
-from_index : {A : Type 0} (xs : List A) (i : ℕ) (x : A) → i < length xs → x ≡ get_or xs i x → drop i xs ≡ x ∷ drop (suc i) xs
-from_index xs i x lt is = drop-cons xs i x lt ∙ ap (λ z. z ∷ drop (suc i) xs) (sym is)
+-- items that stand at the index i in lists of n items each
+pub data AreAt {A : Type 0} (i n : ℕ) : List A → List (List A) → Type 0 where
+  None : AreAt i n [] []
+  More : {x : A} {xs items : List A} {others : List (List A)} → length xs ≡ n → x ≡ get_or xs i x → AreAt i n items others → AreAt i n (x ∷ items) (xs ∷ others)
+
+from_index : {A : Type 0} (i n : ℕ) (x : A) (xs : List A) → i < n → length xs ≡ n → x ≡ get_or xs i x → drop i xs ≡ x ∷ drop (suc i) xs
+from_index i n x xs lt size is = drop-cons xs i x (omega (arith, lt, size)) ∙ ap (λ z. z ∷ drop (suc i) xs) (sym is)
 
 module _ {A : Type 0} (ops : Ops A) where
-  -- the sums of five lists, the first two first
-  abbrev pub sums_of_five : List A → List A → List A → List A → List A → List A
-  sums_of_five xs ps qs rs ts = sums_of_both ops (sums_of_both ops (sums_of_both ops (sums_of_both ops xs ps) qs) rs) ts
+  -- the sums of the items from the index i on of a list and of others
+  abbrev pub sums_from : ℕ → List A → List (List A) → List A
+  sums_from i xs others = fold (sums_of_both ops) (drop i xs) (map (drop i) others)
+
+  -- the sums at an index, and those behind it
+  sums-cons : (i n : ℕ) (x : A) (xs items : List A) (others : List (List A)) → i < n → AreAt i n items others
+      → fold (sums_of_both ops) (x ∷ xs) (map (drop i) others) ≡ fold ops.plus x items ∷ fold (sums_of_both ops) xs (map (drop (suc i)) others)
+  unfolding sums_of_both
+  sums-cons i n x xs [] [] lt None = refl
+  sums-cons i n x xs [] (ys ∷ others) lt at = elim at [ ]
+  sums-cons i n x xs (y ∷ items) [] lt at = elim at [ ]
+  sums-cons i n x xs (y ∷ items) (ys ∷ others) lt (More size is at) =
+      ap (λ zs. fold (sums_of_both ops) (sums_of_both ops (x ∷ xs) zs) (map (drop i) others)) (from_index i n y ys lt size is)
+      ∙ sums-cons i n (ops.plus x y) (sums_of_both ops xs (drop (suc i) ys)) items others lt at
 
   -- the item at index i is done, and the rest are still to come
-  pub both_more : (x y : A) (i : ℕ) (xs ys : List A) → i < length xs → i < length ys → x ≡ get_or xs i x → y ≡ get_or ys i y
-      → take (i + 1) (set xs i (ops.plus x y)) ++ sums_of_both ops (drop (i + 1) (set xs i (ops.plus x y))) (drop (i + 1) ys)
-      ≡ take i xs ++ sums_of_both ops (drop i xs) (drop i ys)
-  unfolding sums_of_both
-  both_more x y i xs ys lt within is_x is_y =
-      let v : A = ops.plus x y in
-      let done : take (i + 1) (set xs i v) ≡ take i xs ++ v ∷ [] = take_more_set xs i v lt in
+  pub sums_more : (i n : ℕ) (x : A) (xs items : List A) (others : List (List A)) → i < n → AreAt i n (x ∷ items) (xs ∷ others)
+      → take (i + 1) (set xs i (fold ops.plus x items)) ++ sums_from (i + 1) (set xs i (fold ops.plus x items)) others ≡ take i xs ++ sums_from i xs others
+  sums_more i n x xs items others lt (More size is at) =
+      let v : A = fold ops.plus x items in
+      let done : take (i + 1) (set xs i v) ≡ take i xs ++ v ∷ [] = take_more_set xs i v (omega (arith, lt, size)) in
       let later : i < i + 1 = omega arith in
       let kept : drop (i + 1) (set xs i v) ≡ drop (i + 1) xs = drop-set-lt (i + 1) xs i v later in
-      rw (done, kept, from_index xs i x lt is_x, from_index ys i y within is_y, add-one i, append_assoc) refl
+      rw (done, kept, from_index i n x xs lt size is, sums-cons i n x (drop (suc i) xs) items others lt at, add-one i, append_assoc) refl
+
+  none_summed : (others : List (List A)) → fold (sums_of_both ops) [] others ≡ []
+  unfolding sums_of_both
+  none_summed [] = refl
+  none_summed (ys ∷ others) = none_summed others
 
   -- past the last index nothing is left to add
-  pub both_done : (i : ℕ) (xs ys : List A) → length xs ≤ i → take i xs ++ sums_of_both ops (drop i xs) ys ≡ xs
-  unfolding sums_of_both
-  both_done i xs ys le =
+  pub sums_done : (i : ℕ) (xs : List A) (others : List (List A)) {sums : List A} → length xs ≤ i → take i xs ++ sums_from i xs others ≡ sums → xs ≡ sums
+  sums_done i xs others le rest =
       let empty : drop i xs ≡ [] = drop_of_length-le xs {i = i} le in
-      rw empty (rw empty at (take-append-drop i xs))
-
-  -- the same with five lists
-  pub five_more : (x a b c d : A) (i : ℕ) (xs ps qs rs ts : List A) → i < length xs → i < length ps → i < length qs → i < length rs → i < length ts
-      → x ≡ get_or xs i x → a ≡ get_or ps i a → b ≡ get_or qs i b → c ≡ get_or rs i c → d ≡ get_or ts i d
-      → take (i + 1) (set xs i (ops.plus (ops.plus (ops.plus (ops.plus x a) b) c) d))
-      ++ sums_of_five (drop (i + 1) (set xs i (ops.plus (ops.plus (ops.plus (ops.plus x a) b) c) d))) (drop (i + 1) ps) (drop (i + 1) qs) (drop (i + 1) rs) (drop (i + 1) ts)
-      ≡ take i xs ++ sums_of_five (drop i xs) (drop i ps) (drop i qs) (drop i rs) (drop i ts)
-  unfolding sums_of_both
-  five_more x a b c d i xs ps qs rs ts lt in_a in_b in_c in_d is_x is_a is_b is_c is_d =
-      let v : A = ops.plus (ops.plus (ops.plus (ops.plus x a) b) c) d in
-      let done : take (i + 1) (set xs i v) ≡ take i xs ++ v ∷ [] = take_more_set xs i v lt in
-      let later : i < i + 1 = omega arith in
-      let kept : drop (i + 1) (set xs i v) ≡ drop (i + 1) xs = drop-set-lt (i + 1) xs i v later in
-      rw (done, kept, from_index xs i x lt is_x, from_index ps i a in_a is_a, from_index qs i b in_b is_b, from_index rs i c in_c is_c, from_index ts i d in_d is_d, add-one i, append_assoc) refl
-
-  pub five_done : (i : ℕ) (xs ps qs rs ts : List A) → length xs ≤ i → take i xs ++ sums_of_five (drop i xs) ps qs rs ts ≡ xs
-  unfolding sums_of_both
-  five_done i xs ps qs rs ts le =
-      let empty : drop i xs ≡ [] = drop_of_length-le xs {i = i} le in
-      rw empty (rw empty at (take-append-drop i xs))
+      let left : sums_from i xs others ≡ drop i xs = ap (λ zs. fold (sums_of_both ops) zs (map (drop i) others)) empty ∙ none_summed (map (drop i) others) ∙ sym empty in
+      sym (ap (λ zs. take i xs ++ zs) left ∙ take-append-drop i xs) ∙ rest
 
   pub length-both : (xs ys : List A) → length xs ≡ length ys → length (sums_of_both ops xs ys) ≡ length xs
   unfolding sums_of_both

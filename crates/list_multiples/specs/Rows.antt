@@ -6,9 +6,9 @@ use Rattle.field_rules.specs.Ops.{Ops}
 abbrev pub row_of : {A : Type 0} → ℕ → List A → ℕ → List A
 row_of n rows r = take n (drop (r * n) rows)
 
--- how many rows: sixteen for each four bits, where the bits of an element are filled up to a multiple of sixteen
+-- how many rows: sixteen for each four bits, where the bits of an element are filled up to a multiple of 32
 abbrev pub row_count : ℕ → ℕ
-row_count bits = 64 * ((bits + 15) / 16)
+row_count bits = 128 * ((bits + 31) / 32)
 
 -- the bits of what the row at index r = 16 w + v has the multiples by: v * x ^ (4 w)
 abbrev pub factor : ℕ → ℕ

@@ -8,3 +8,4 @@ mod rows;
 mod tests;
 
 pub use list_multiples::ListMultiples;
+pub use rows::add_each;

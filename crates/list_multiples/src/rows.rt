@@ -12,7 +12,7 @@ use std::alloc::Global;
 pub fn rows_of<F: Field>(alloc: Global, list: &[F]) -> Result<Vec<F>, OutOfMemory>
     ensures { IfOk result (λ rows. AreRows F.ops F.bits_of (row_count F.BITS) list.now rows.items) }
 {
-    let count = 64 * ((F::BITS as usize + 15) / 16);
+    let count = 128 * ((F::BITS as usize + 31) / 32);
     let mut rows = Vec::with_capacity(alloc, list.len().saturating_mul(count))?;
     for r in 0..count {
         let row = next_row(alloc, rows.as_slice(), list, r)?;
@@ -106,7 +106,7 @@ fn sums<F: Field>(alloc: Global, a: &[F], b: &[F]) -> Result<Vec<F>, OutOfMemory
 }
 
 /// Adds the item of `x` at each index to the item of `acc` at that index.
-fn add_each<F: Field>(acc: &mut [F], x: &[F])
+pub fn add_each<F: Field>(acc: &mut [F], x: &[F])
     requires { length acc.old ≡ length x.now }
     ensures { acc.new ≡ sums_of_both F.ops acc.old x.now }
 {

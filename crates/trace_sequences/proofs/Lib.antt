@@ -3,3 +3,5 @@ mod Equal
 mod HalfLists
 mod RowLists
 mod Scattered
+mod TapHalves
+mod TapLists

@@ -23,7 +23,7 @@ pub fn all_correlations<F: Field>(
     requires { All (λ s. n + length items.now ≤ length s + 1) sequences.now }
     ensures { IfOk result (λ v. AreCorrelations F.ops items.now n sequences.now v.items) }
 {
-    let taps = taps_for(alloc, items, n.saturating_mul(sequences.len()))?;
+    let taps = taps_for(alloc, items, n, sequences.len())?;
     let mut found = Vec::with_capacity(alloc, sequences.len())?;
     for sequence in sequences {
         let correlation = taps.correlation(alloc, sequence.as_slice(), n)?;
@@ -33,12 +33,17 @@ pub fn all_correlations<F: Field>(
 }
 
 /// The list, with its multiples where it is for many items.
-fn taps_for<F: Field>(alloc: Global, items: &[F], count: usize) -> Result<Taps<F>, OutOfMemory>
+fn taps_for<F: Field>(
+    alloc: Global,
+    items: &[F],
+    n: usize,
+    sequences: usize,
+) -> Result<Taps<F>, OutOfMemory>
     ensures { IfOk result (λ t. t ≡ items.now) }
 {
-    if count < MULTIPLES_PAY_FROM {
+    if n.saturating_mul(sequences) < MULTIPLES_PAY_FROM {
         Ok(Taps::of(items))
     } else {
-        Taps::for_many(alloc, items)
+        Taps::for_many(alloc, items, n)
     }
 }

@@ -2,6 +2,8 @@
 #![tactic(auto)]
 
 mod correlations;
+mod halved;
+mod lists;
 mod rows;
 mod sequence;
 mod squares;

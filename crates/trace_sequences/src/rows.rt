@@ -10,8 +10,9 @@ ghost use Rattle.sequence_laws.specs.Sequences.{IsUnit, row_of, sequence_of};
 ghost use Rattle.trace_sequences.specs.Rows.{AreRows};
 
 use crate::Sequence;
+use crate::lists::zeros;
 use crate::squares::{halves_of, square_sequence};
-use crate::taps::{Taps, zeros};
+use crate::taps::Taps;
 use base_types::OutOfMemory;
 use field_core::Field;
 use poly_ops::Poly;
@@ -27,8 +28,8 @@ pub fn rows_of<F: Field>(alloc: Global, f: &Poly<F>) -> Result<Vec<Sequence<F>>,
 {
     let n = f.coeffs().len() - 1;
     let halves = halves_of(alloc, f.coeffs())?;
-    let even = Taps::for_many(alloc, halves.even.as_slice())?;
-    let odd = Taps::for_many(alloc, halves.odd.as_slice())?;
+    let even = Taps::for_many(alloc, halves.even.as_slice(), n / 2)?;
+    let odd = Taps::for_many(alloc, halves.odd.as_slice(), n - n / 2)?;
     let sums = unit_sums(alloc, f.coeffs(), n / 4 + 2)?;
     let count = F::BITS as usize + 1;
     let mut rows = Vec::with_capacity(alloc, count)?;

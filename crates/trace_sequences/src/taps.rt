@@ -1,11 +1,12 @@
 //! Lists whose correlations with others are wanted: the sums of the products with another from each index on.
 
-ghost use Rattle.std.specs.Prelude.{◌≡◌, ◌⊎◌, ◌+◌, ◌≤◌, List, length, replicate, reverse, IfOk};
+ghost use Rattle.std.specs.Prelude.{◌≡◌, ◌+◌, ◌≤◌, length, replicate, IfOk};
 ghost use Rattle.splitting_laws.specs.Parts.{IsCorrelation};
 
+use crate::halved::{HalvedTaps, halved_taps};
+use crate::lists::zeros;
 use base_types::OutOfMemory;
 use field_core::Field;
-use list_multiples::ListMultiples;
 use std::alloc::Global;
 use std::marker::Model;
 
@@ -16,17 +17,18 @@ const MULTIPLES_PAY_FROM: usize = 64;
 #[derive(Drop)]
 pub struct Taps<'a, F: Field> {
     items: &'a [F],
-    multiples: Option<ListMultiples<F>>,
+    halved: Option<HalvedTaps<F>>,
 }
 
 impl<'a, F: Field> Model for Taps<'a, F> {
-    ghost use Rattle.std.specs.Prelude.{◌≡◌, ◌≤◌, List, length, reverse, IfSome};
+    ghost use Rattle.std.specs.Prelude.{◌<◌, ◌^◌, List, IfSome};
+    ghost use Rattle.trace_sequences.specs.Halved.{ArePaddedLists};
 
     ghost Value = { List F };
 
     ghost view = { λ t. t.items.now };
 
-    ghost invariant = { λ t. IfSome t.multiples (λ m. (m ≡ reverse t.items.now) × (1 ≤ length t.items.now)) };
+    ghost invariant = { λ t. IfSome t.halved (λ h. (h.size < 2 ^ 62) × ArePaddedLists F.ops h.depth h.size t.items.now h.lists.items) };
 }
 
 impl<'a, F: Field> Taps<'a, F> {
@@ -36,23 +38,21 @@ impl<'a, F: Field> Taps<'a, F> {
     {
         Taps {
             items,
-            multiples: None,
+            halved: None,
         }
     }
 
-    /// For many.
-    pub fn for_many(alloc: Global, items: &'a [F]) -> Result<Taps<'a, F>, OutOfMemory>
+    /// For many, of n items each.
+    pub fn for_many(alloc: Global, items: &'a [F], n: usize) -> Result<Taps<'a, F>, OutOfMemory>
         ensures { IfOk result (λ t. t ≡ items.now) }
     {
-        if items.len() < MULTIPLES_PAY_FROM {
+        if items.len() < MULTIPLES_PAY_FROM || n / 2 > items.len() {
             return Ok(Taps::of(items));
         }
-        let mut turned = Vec::from_slice(alloc, items)?;
-        turned.as_mut_slice().reverse();
-        let multiples = ListMultiples::of(alloc, turned.as_slice())?;
+        let halved = halved_taps(alloc, items, n)?;
         Ok(Taps {
             items,
-            multiples: Some(multiples),
+            halved: Some(halved),
         })
     }
 
@@ -61,29 +61,15 @@ impl<'a, F: Field> Taps<'a, F> {
         requires { n + length self.now ≤ length others.now + 1 }
         ensures { IfOk result (λ v. IsCorrelation F.ops self.now others.now n v.items) }
     {
+        if let Some(halved) = &self.halved {
+            if n <= halved.size {
+                return halved.correlation(alloc, others, n);
+            }
+        }
         let mut products = zeros(alloc, n)?;
-        self.add_correlation(products.as_mut_slice(), others);
+        add_by_items(products.as_mut_slice(), self.items, others);
         Ok(products)
     }
-
-    /// Adds them to zeros.
-    fn add_correlation(&self, products: &mut [F], others: &[F])
-        requires zeros { products.old ≡ replicate (length products.old) F.ops.zero }
-        requires fits { length products.old + length self.now ≤ length others.now + 1 }
-        ensures { IsCorrelation F.ops self.now others.now (length products.old) products.new }
-    {
-        match &self.multiples {
-            Some(multiples) => add_by_multiples(products, multiples, others),
-            None => add_by_items(products, self.items, others),
-        }
-    }
-}
-
-/// n zeros.
-pub fn zeros<F: Field>(alloc: Global, n: usize) -> Result<Vec<F>, OutOfMemory>
-    ensures { IfOk result (λ v. v.items ≡ replicate n F.ops.zero) }
-{
-    Ok(vec![in alloc; F::ZERO; n]?)
 }
 
 /// Adds to zeros, item by item of the first list, its multiples of the second.
@@ -96,29 +82,4 @@ fn add_by_items<F: Field>(products: &mut [F], items: &[F], others: &[F])
         let window = &others[i..i + products.len()];
         F::axpy(products, *item, window);
     }
-}
-
-/// Adds to zeros, item by item of the second list, its multiples of the first, which is given turned round.
-fn add_by_multiples<F: Field>(products: &mut [F], turned: &ListMultiples<F>, others: &[F])
-    requires zeros { products.old ≡ replicate (length products.old) F.ops.zero }
-    requires some { 1 ≤ length turned.now }
-    requires fits { length products.old + length turned.now ≤ length others.now + 1 }
-    ensures { (items : List F) → turned.now ≡ reverse items → IsCorrelation F.ops items others.now (length products.old) products.new }
-{
-    let size = turned.len();
-    let used = products.len() + (size - 1);
-    for j in 0..used {
-        let first = (j + 1).saturating_sub(size);
-        let end = lesser(products.len(), j + 1);
-        let from = size - 1 - (j - first);
-        turned.add_multiple_of(from, &mut products[first..end], others[j]);
-    }
-}
-
-/// The lesser of two numbers.
-fn lesser(a: usize, b: usize) -> usize
-    ensures no_more { (result ≤ a) × (result ≤ b) }
-    ensures one { (a ≤ result) ⊎ (b ≤ result) }
-{
-    if a < b { a } else { b }
 }

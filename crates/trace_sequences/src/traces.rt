@@ -10,8 +10,8 @@ ghost use Rattle.sequence_laws.specs.Sequences.{IsUnit, sequence_of};
 ghost use Rattle.trace_sequences.specs.Rows.{AreRows, AreTraceSequences};
 
 use crate::Sequence;
+use crate::lists::zeros;
 use crate::rows::rows_of;
-use crate::taps::zeros;
 use base_types::OutOfMemory;
 use field_core::Field;
 use poly_ops::Poly;

@@ -1,7 +1,7 @@
 use Rattle.std.proofs.Common.{◌≡◌, ◌⊎◌, inl, inr, ◌+◌, ◌-◌, ◌≤◌, length, refl, ap, ◌∙◌, arith}
 use Rattle.std.proofs.lemmas.List.{length-reverse}
 use Rattle.trace_sequences.proofs.Scattered.{scattered_none, scattered_more, scattered_all}
-use Rattle.trace_sequences.proofs.taps.add_by_multiples.Goals as goal
+use Rattle.trace_sequences.proofs.halved.add_by_multiples.Goals as goal
 
 pub loop-j-init : goal.loop-j-init
 loop-j-init g c = λ items is. scattered_none g.F.Field.ops g.met.F.Field.ring items (length c.args.products.now) c.args.products.now c.requires.zeros
