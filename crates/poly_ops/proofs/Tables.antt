@@ -1,9 +1,9 @@
 -- One power more in a Frobenius table.
-use Rattle.std.proofs.Common.{◌≡◌, ◌⊎◌, inl, inr, ℕ, ◌+◌, ◌^◌, ◌<◌, ◌≤◌, List, [], ◌∷◌, ◌++◌, length, get_or, sym, ap, subst, ◌∙◌, arith, length-append}
+use Rattle.std.proofs.Common.{◌≡◌, ◌⊎◌, inl, inr, ℕ, ◌+◌, ◌^◌, ◌<◌, ◌≤◌, List, [], ◌∷◌, ◌++◌, length, get_or, refl, sym, ap, subst, ◌∙◌, arith, length-append}
 use Rattle.std.proofs.lemmas.List.{get_or_append_left, get_or_push}
 use Rattle.std.proofs.lemmas.Nat.{pow-add}
 use Rattle.field_rules.specs.Ops.{Ops, IsRing}
-use Rattle.poly_rules.specs.Polynomials.{product_of, monomial}
+use Rattle.poly_rules.specs.Polynomials.{IsSamePolynomial, product_of, monomial}
 use Rattle.poly_rules.specs.Remainders.{IsRemainder, IsFrobeniusTable}
 use Rattle.poly_laws.proofs.Sums.{same_back}
 use Rattle.poly_laws.proofs.Products.{product_powers}
@@ -18,6 +18,19 @@ module _ {A : Type 0} (ops : Ops A) (ring : IsRing ops) where
       (remainder_from ops ring f (monomial ops (2 ^ i + 2 ^ i)) (product_of ops (monomial ops (2 ^ i)) (monomial ops (2 ^ i))) s
       (same_back ops (product_powers ops ring (2 ^ i) (2 ^ i)))
       (remainder_product ops ring f (monomial ops (2 ^ i)) (monomial ops (2 ^ i)) p p s h h k))
+
+  -- the first power's
+  pub table-first : (f x : List A) (table : List (List A)) (p : List A) → table ≡ [] → IsSamePolynomial ops x (monomial ops 1) → IsRemainder ops x f p → IsFrobeniusTable ops f 0 (table ++ p ∷ [])
+  table-first f x table p none same rest =
+      subst (λ z. IsFrobeniusTable ops f 0 (z ++ p ∷ [])) (sym none)
+      record {
+        size = refl;
+        each = λ j le.
+            subst (λ k. IsRemainder ops (monomial ops (2 ^ k)) f (get_or (p ∷ []) k [])) (is_zero j le) (remainder_from ops ring f (monomial ops 1) x p (same_back ops same) rest);
+      }
+    where
+      is_zero : (j : ℕ) → j ≤ 0 → 0 ≡ j
+      is_zero j le = omega arith
 
   pub table-more : (f : List A) (i : ℕ) (table : List (List A)) (p s : List A) → IsFrobeniusTable ops f i (table ++ p ∷ []) → IsRemainder ops (product_of ops p p) f s
       → IsFrobeniusTable ops f (i + 1) ((table ++ p ∷ []) ++ s ∷ [])
