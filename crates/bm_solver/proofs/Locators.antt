@@ -1,5 +1,5 @@
 -- The coefficients of a recurrence, read from its monic form.
-use Rattle.std.proofs.Common.{◌≡◌, ◌≤◌, List, [], ◌∷◌, length, drop, reverse, sym, ap, ◌∙◌, arith}
+use Rattle.std.proofs.Common.{◌≡◌, ◌≤◌, List, [], ◌∷◌, length, drop, reverse, sym, ap, ◌∙◌, arith, length-drop}
 use Rattle.std.proofs.lemmas.List.{get_or-reverse, length-reverse, reverse-reverse}
 use Rattle.field_rules.specs.Ops.{Ops}
 use Rattle.poly_rules.specs.Polynomials.{coefficient, IsMonic, degree}
@@ -23,3 +23,7 @@ module _ {A : Type 0} (ops : Ops A) where
   -- and these coefficients are read from it
   pub coefficients_are : (cs : List A) → coefficients_of (reverse (ops.one ∷ cs)) ≡ cs
   coefficients_are cs = ap (drop 1) (reverse-reverse (ops.one ∷ cs))
+
+  -- there are as many as its degree
+  pub length-coefficients : (f : List A) → length (coefficients_of f) ≡ degree f
+  length-coefficients f = omega (arith, length-drop 1 (reverse f), length-reverse f)

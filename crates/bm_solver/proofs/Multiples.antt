@@ -1,5 +1,5 @@
 -- Parts of lists: a multiple of a polynomial that is added to one, and what stands in one at an index.
-use Rattle.std.proofs.Common.{◌≡◌, ℕ, ◌+◌, ◌-◌, ◌<◌, ◌≤◌, List, [], ◌∷◌, ◌++◌, length, get_or, take, drop, replicate, refl, sym, ap, ◌∙◌, arith, length-drop}
+use Rattle.std.proofs.Common.{◌≡◌, ℕ, ◌+◌, ◌-◌, ◌<◌, ◌≤◌, List, [], ◌∷◌, ◌++◌, length, get_or, take, drop, replicate, refl, sym, ap, ◌∙◌, arith, length-append, length-drop}
 use Rattle.std.proofs.lemmas.List.{take-append-drop, length-take-le, length-map, get_or-take, get_or-drop, get_or-append_right, get_or_append_left}
 use borrow.Rule.Slice.PartMut.{mid_of, put_mid}
 use Rattle.field_rules.specs.Ops.{Ops, IsRing}
@@ -18,6 +18,26 @@ module _ {A : Type 0} where
   -- and in one that is read
   pub mid_of_at : (xs : List A) (a n i : ℕ) (d : A) → i < n → get_or (mid_of a n xs) i d ≡ get_or xs (a + i) d
   mid_of_at xs a n i d lt = get_or-take n (drop a xs) i d lt ∙ get_or-drop a xs i d
+
+  -- a part that is written by one as long
+  pub length-put_mid : (acc part : List A) (a n : ℕ) → a + n ≤ length acc → length part ≡ n → length (put_mid a n acc part) ≡ length acc
+  length-put_mid acc part a n within size =
+      omega (arith, length-append (take a acc) (part ++ drop n (drop a acc)), length-append part (drop n (drop a acc)), length-take-le a acc (omega arith), length-drop n (drop a acc), length-drop a acc)
+
+  -- and by the same part of another list
+  module _ (acc part xs : List A) (a n m : ℕ) (count : n ≡ length acc - a) (same_count : m ≡ n) (within : a ≤ length acc) (size : length xs ≡ length acc) (is : part ≡ mid_of a m xs) where
+    part_size : length part ≡ n
+    part_size = ap length is ∙ length-take-le m (drop a xs) (omega (arith, length-drop a xs)) ∙ same_count
+
+    pub length-copied : length (put_mid a n acc part) ≡ length acc
+    length-copied = length-put_mid acc part a n (omega arith) part_size
+
+    pub copied_at : (j : ℕ) (d : A) → a ≤ j → j < length acc → get_or (put_mid a n acc part) j d ≡ get_or xs j d
+    copied_at j d from lt =
+        put_mid_at acc part a n j d within from (omega (arith, part_size))
+        ∙ ap (λ z. get_or z (j - a) d) is
+        ∙ mid_of_at xs a m (j - a) d (omega arith)
+        ∙ (let here : a + (j - a) ≡ j = omega arith in ap (λ z. get_or xs z d) here)
 
 module _ {A : Type 0} (ops : Ops A) (ring : IsRing ops) where
   -- a sum with a list that begins with zeros

@@ -27,7 +27,7 @@ module _ {A : Type 0} (ops : Ops A) (ring : IsRing ops) where
 module _ {A : Type 0} (ops : Ops A) (ring : IsRing ops) {s current saved r q room : List A} {n : ℕ} {inverse : A} (so_far : IsSearching ops s n current saved inverse r q room) (inside : n < length s) where
   -- the item at n, whose discrepancy is d
   module _ {d : A} (is : d ≡ get_or r n d) where
-    discrepancy_is : d ≡ dot_of ops current (drop (n - degree current) s)
+    pub discrepancy_is : d ≡ dot_of ops current (drop (n - degree current) s)
     discrepancy_is = get_or_read_under r n (length r) d ops.zero is (omega (arith, so_far.current_size)) refl ∙ so_far.carried.coming.each n (omega arith) inside
 
     pub kept : d ≡ ops.zero → IsSearching ops s (n + 1) current saved inverse r q room

@@ -18,3 +18,21 @@ returns-in_ok-grow-clause-so_far g c =
     rw c.in_ok-grow.ensures.saved
     (grown g.F.Field.ops g.met.F.Field.ring c.requires.so_far c.requires.inside c.index.ensures c.len-length.result c.len.result c.mul-factor.result c.grow.new.self.current.discrepancies.items (omega arith) (omega arith) c.mul-factor.ensures.times
     c.in_ok-grow.ensures.current_size c.in_ok-grow.ensures.discrepancies c.if-start-length.false c.in_ok-grow.ensures.monic c.inv-self.ensures c.in_ok-grow.ensures.room_size)
+
+pub overflow_add-behind : goal.overflow_add-behind
+overflow_add-behind g c = omega arith
+
+pub add-requires : goal.add-requires
+add-requires g c = record {
+  coefficients = omega arith;
+  next = (omega arith, omega arith);
+  sizes = omega arith;
+}
+
+pub grow-requires : goal.grow-requires
+grow-requires g c = record {
+  coefficients = omega arith;
+  next = (omega arith, omega arith);
+  saved_size = omega arith;
+  spare_size = omega arith;
+}
