@@ -60,3 +60,7 @@ module _ {A : Type 0} (ops : Ops A) (ring : IsRing ops) where
           ∙ get_or-drop i sums k ops.zero
           ∙ ap (λ z. get_or sums z ops.zero) (omega arith)
           ∙ sym (get_or-drop k sums i ops.zero)
+
+-- zeros, as many as there are
+pub zeros_alike : {A : Type 0} (xs : List A) (n : ℕ) (z : A) → xs ≡ replicate n z → (length xs ≡ n) × (xs ≡ replicate (length xs) z)
+zeros_alike xs n z is = let size : length xs ≡ n = ap length is ∙ length-replicate n z in (size, is ∙ ap (λ k. replicate k z) (sym size))

@@ -27,14 +27,34 @@ pub fn rows_of<F: Field>(alloc: Global, f: &Poly<F>) -> Result<Vec<Sequence<F>>,
         → IfOk result (λ rows. AreRows F.ops u es rows.items) }
 {
     let n = f.coeffs().len() - 1;
+    let sums = unit_sums(alloc, f.coeffs(), n / 4 + 2)?;
     let halves = halves_of(alloc, f.coeffs())?;
     let even = Taps::for_many(alloc, halves.even.as_slice(), n / 2)?;
     let odd = Taps::for_many(alloc, halves.odd.as_slice(), n - n / 2)?;
-    let sums = unit_sums(alloc, f.coeffs(), n / 4 + 2)?;
+    rows_by_halves(alloc, &even, &odd, sums.as_slice(), n)
+}
+
+/// The rows, one after another.
+fn rows_by_halves<F: Field>(
+    alloc: Global,
+    even: &Taps<F>,
+    odd: &Taps<F>,
+    sums: &[F],
+    n: usize,
+) -> Result<Vec<Sequence<F>>, OutOfMemory>
+    requires sums { (2 ≤ length sums.now) × (length sums.now ≤ n) }
+    requires odd { length odd.now ≡ (n + 1) / 2 }
+    requires even { length even.now ≡ n / 2 + 1 }
+    ensures count { IfOk result (λ rows. length rows.items ≡ F.BITS + 1) }
+    ensures size { IfOk result (λ rows. All (λ r. length r ≡ n) rows.items) }
+    ensures rows { (es f : List F) (u : F → F) → AreDistinct es → f ≡ with_roots F.ops es → IsUnit F.ops u es → length es ≡ n
+        → even.now ≡ evens f → odd.now ≡ odds f → sums.now ≡ sequence_of F.ops u es (length es - 1) (length sums.now)
+        → IfOk result (λ rows. AreRows F.ops u es rows.items) }
+{
     let count = F::BITS as usize + 1;
     let mut rows = Vec::with_capacity(alloc, count)?;
     for _ in 0..count {
-        let row = next_row(alloc, &even, &odd, sums.as_slice(), n, rows.as_slice())?;
+        let row = next_row(alloc, even, odd, sums, n, rows.as_slice())?;
         rows.push(Sequence::new(row))?;
     }
     Ok(rows)

@@ -1,4 +1,4 @@
-use Rattle.std.proofs.Common.{◌≡◌, ◌+◌, ◌++◌, length, replicate, sym, subst, ap, ◌∙◌, length-append}
+use Rattle.std.proofs.Common.{◌≡◌, ◌+◌, List, ◌++◌, length, replicate, sym, subst, ap, ◌∙◌, length-append}
 use Rattle.std.proofs.lemmas.List.{length-replicate}
 use Rattle.splitting_laws.specs.Parts.{IsCorrelation}
 use Rattle.trace_sequences.specs.Halved.{AreLists}
@@ -14,3 +14,12 @@ returns g c taps padded fits =
     (c.as_slice-2.ensures.value ∙ c.in_ok-window.ensures) c.requires.size.0 fits
     (c.in_ok-products.ensures (taps ++ replicate padded.zeros g.F.Field.ops.zero)
     (subst (AreLists g.F.Field.ops c.args.self.now.depth (taps ++ replicate padded.zeros g.F.Field.ops.zero)) (sym c.as_slice.ensures.value) padded.lists_are) size))
+
+pub correlation_by_halves-requires-clause-lists : goal.correlation_by_halves-requires-clause-lists
+correlation_by_halves-requires-clause-lists g c =
+    let taps : List _ = c.requires.lists.0 in
+    let zeros : List _ = replicate c.requires.lists.1.zeros g.F.Field.ops.zero in (
+      taps ++ zeros,
+      subst (AreLists g.F.Field.ops c.args.self.now.depth (taps ++ zeros)) (sym c.as_slice.ensures.value) c.requires.lists.1.lists_are,
+      length-append taps zeros ∙ ap (λ z. length taps + z) (length-replicate c.requires.lists.1.zeros g.F.Field.ops.zero) ∙ c.requires.lists.1.size_is,
+    )
