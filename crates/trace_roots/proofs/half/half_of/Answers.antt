@@ -44,3 +44,15 @@ returns-clause-half g c = λ exponent b u es bits differ unit size traced alike.
 
     tested_one : IsTrue c.eq-else-eq.result ↔ (c.discrepancy-last.result ≡ c.ONE.result)
     tested_one = equal_bits g.F.Field.ops g.F.Field.bits_of g.F.Field.BITS g.met.F.Field.numbered c.eq-else-eq.result c.discrepancy-last.result c.ONE.result (c.eq-else-eq.ensures ∙ g.met.F.Field.equal c.discrepancy-last.result c.ONE.result)
+
+pub returns-then-eq-clause-monic : goal.returns-then-eq-clause-monic
+returns-then-eq-clause-monic g c = c.into_monic_form.ensures.monic
+
+pub returns-clause-monic : goal.returns-clause-monic
+returns-clause-monic g c = c.into_monic_form-2.ensures.monic
+
+pub returns-then-eq-clause-none : goal.returns-then-eq-clause-none
+returns-then-eq-clause-none g c = λ exponent b u es bits differ unit size traced alike none. cc none
+
+pub returns-clause-none : goal.returns-clause-none
+returns-clause-none g c = λ exponent b u es bits differ unit size traced alike none. cc none
